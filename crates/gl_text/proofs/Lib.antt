@@ -1,0 +1,4 @@
+pub mod CallCardLaws
+pub mod CardLaws
+pub mod LevelLaws
+pub mod TailLaws

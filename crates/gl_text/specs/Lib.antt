@@ -1,0 +1,6 @@
+pub mod LogicalLines
+pub mod Cards
+pub mod Decks
+pub mod Flattening
+pub mod WayBack
+pub mod Levels
