@@ -1,5 +1,5 @@
 -- One card.
-use Rattle.std.specs.Prelude.{ℕ, zero, suc, ◌+◌, ◌-◌, ◌==◌, ◌||◌, ◌&&◌, not, nat_le, nat_lt, Bool, true, false, List, [], ◌∷◌, ◌++◌, length, take, drop, map, filter, flat_map, Option, Some, None, Result, Ok, Err, codes, slice_get, option_to_list, option_map, if◌then◌else◌}
+use Rattle.std.specs.Prelude.{◌≡◌, ℕ, zero, suc, ◌+◌, ◌-◌, ◌==◌, ◌||◌, ◌&&◌, not, nat_le, nat_lt, Bool, true, false, List, [], ◌∷◌, ◌++◌, length, take, drop, map, filter, flat_map, Option, Some, None, Result, Ok, Err, codes, slice_get, option_to_list, option_map, if◌then◌else◌}
 use Rattle.std.specs.List.{last_or, join_with_byte, list_any}
 use Rattle.gl_text.specs.LogicalLines.{NAME, TAIL, Fault, loose_plus, long_name, unknown_card, short_card, control_block, parameters, long_tail, Piece, fields_of, first_field, fold_byte, folded, is_blank, trim_end, tail_of, same_text, begins, Line}
 
@@ -199,3 +199,7 @@ printed (ends name) = join_with_byte 32 (codes ".ends" ∷ option_to_list name)
 printed (global names) = join_with_byte 32 (codes ".global" ∷ names)
 printed ended = codes ".end"
 printed (passed text) = text
+
+-- a device card as it is read: the nodes that its letter demands, and a model exactly where the letter has one
+pub record IsDeviceCard (d : Device) : Type 0 where
+  pub letter : (dot : Kind) → by_byte (kinds dot) (first_byte d.name) ≡ device (length d.nodes) (length (d.name ∷ d.nodes ++ option_to_list d.model))
