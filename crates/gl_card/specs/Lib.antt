@@ -1,1 +1,5 @@
 pub mod Letters
+pub mod Kinds
+pub mod Reading
+pub mod EqualSigns
+pub mod Lines

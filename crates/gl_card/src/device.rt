@@ -63,4 +63,10 @@ impl DevCard {
     {
         self.model.as_ref()
     }
+    /// What follows the fields.
+    pub fn tail(&self) -> &Tail
+        ensures tail { result.now ≡ self.now.tail }
+    {
+        &self.tail
+    }
 }

@@ -36,4 +36,10 @@ impl ModelCard {
     {
         &self.word
     }
+    /// What follows the fields.
+    pub fn tail(&self) -> &Tail
+        ensures tail { result.now ≡ self.now.tail }
+    {
+        &self.tail
+    }
 }

@@ -1,8 +1,35 @@
-//! Names and tails of cards.
+//! The title, the logical lines and the fields of a text, each exactly as its definition has it.
 #![tactic(auto)]
 
+mod bytes;
+mod end;
+mod fault;
+mod field;
+mod field_iter;
+mod gather;
+mod iter;
+mod kept;
+mod line;
+mod logical;
+mod memory;
 mod name;
+mod run;
+mod squeeze;
+mod state;
+mod steps;
 mod tail;
+#[cfg(test)]
+mod tests;
+mod trim;
 
+pub use bytes::{fold, is_blank, is_separator, is_word};
+pub use fault::LineFault;
+pub use field::{Field, FieldIter};
+pub use field_iter::fields;
+pub use line::split_title;
+pub use logical::Logical;
+pub use memory::Memory;
 pub use name::Name;
+pub use state::LogicalLines;
 pub use tail::Tail;
+pub use trim::trim_end;

@@ -5,7 +5,9 @@ ghost use Rattle.std.specs.Cmp.Rules.{hashing};
 ghost use Rattle.std.proofs.Common.{rules};
 ghost use Rattle.std.specs.Ordering.{nat_cmp};
 ghost use Rattle.std.specs.Hash as fed;
+ghost use Rattle.gl_text.specs.LogicalLines.{folded};
 
+use bstr::ByteSlice;
 use std::alloc::{AllocError, Global};
 use std::cmp::Ordering;
 use std::hash::{Hash, Hasher};
@@ -33,6 +35,15 @@ impl Name {
     {
         Ok(Name {
             bytes: Vec::from_slice(alloc, bytes)?,
+        })
+    }
+
+    /// The name that a field gives: its bytes, large letters as small ones.
+    pub fn folded(alloc: Global, field: &[u8]) -> Result<Name, AllocError>
+        ensures folded { IfOk result (λ name. name ≡ folded field.now) }
+    {
+        Ok(Name {
+            bytes: field.to_ascii_lowercase(alloc)?,
         })
     }
 

@@ -1,5 +1,5 @@
 -- Decks and libraries as the early reader takes them: lines as they stand, transistors alone, and one cell. This project's own.
-use Rattle.std.specs.Prelude.{◌≡◌, ℕ, ◌+◌, ◌<◌, ◌≤◌, ◌==◌, ◌||◌, ◌&&◌, not, nat_lt, Bool, true, false, List, [], ◌∷◌, ◌++◌, length, take, drop, map, filter, flat_map, filter_map, find, sum_by, Option, Some, None, option_map, Result, Ok, Err, codes, slice_get, if◌then◌else◌, All}
+use Rattle.std.specs.Prelude.{◌≡◌, ℕ, ◌+◌, ◌<◌, ◌≤◌, ◌==◌, ◌||◌, ◌&&◌, not, nat_lt, Bool, true, false, List, [], ◌∷◌, ◌++◌, length, take, drop, map, filter, flat_map, filter_map, find, sum_by, Option, Some, None, option_map, is_some, Result, Ok, Err, codes, slice_get, if◌then◌else◌, All}
 use Rattle.std.specs.List.{list_any, list_all, before_first, after_first}
 use Rattle.gl_text.specs.LogicalLines.{Line, kept_lines, lines_of, after_title, fields_of, fold_byte, same_text}
 use Rattle.gl_text.specs.Cards.{Device, Model, Head, Kind, device, modelling, opening, closing, globals, ending, kind_of, needs, all_fields, first_or, first_byte, IsDeviceCard}
@@ -48,9 +48,16 @@ is_whole l = not (nat_lt (length (fields_of l.text)) (needs (kind_of l.text)))
 abbrev pub is_transistor : Line → Bool
 is_transistor l = (fold_byte (first_byte l.text) == 109) && is_whole l
 
--- a `.global` or `.model` card with all its fields
+-- a `.global` card, and a `.model` card, with all its fields
+abbrev pub is_global_card : Line → Bool
+is_global_card l = is_global (kind_of l.text) && is_whole l
+
+abbrev pub is_model_card : Line → Bool
+is_model_card l = is_model (kind_of l.text) && is_whole l
+
+-- what may stand outside a cell
 abbrev pub is_common : Line → Bool
-is_common l = (is_global (kind_of l.text) || is_model (kind_of l.text)) && is_whole l
+is_common l = is_global_card l || is_model_card l
 
 -- ---- the cards of lines
 
@@ -65,11 +72,15 @@ abbrev pub model_of : Line → Model
 model_of l = let names = all_fields l.text in record { name = first_or [] (drop 1 names); word = first_or [] (drop 2 names); tail = [] }
 
 abbrev pub models_of : List Line → List Model
-models_of lines = map model_of (filter (λ (l : Line). is_model (kind_of l.text)) lines)
+models_of lines = map model_of (filter is_model_card lines)
 
--- the names of `.global` cards, each once in order of first appearance, without `0`
+-- the names of `.global` cards
+abbrev pub global_names : List Line → List (List ℕ)
+global_names lines = flat_map (λ (l : Line). drop 1 (all_fields l.text)) (filter is_global_card lines)
+
+-- these, each once in order of first appearance, without `0`
 abbrev pub globals_of : List Line → List (List ℕ)
-globals_of lines = filter (λ n. not (same_text n (codes "0"))) (once (flat_map (λ (l : Line). drop 1 (all_fields l.text)) (filter (λ (l : Line). is_global (kind_of l.text)) lines)))
+globals_of lines = filter (λ n. not (same_text n (codes "0"))) (once (global_names lines))
 
 abbrev pub head_of : Line → Head
 head_of l = let names = drop 1 (all_fields l.text) in record { name = first_or [] names; ports = drop 1 names }
@@ -145,22 +156,18 @@ first_of_both None later = later
 first_of_both (Some line) later = Some line
 
 -- the first refused line from the cell's `.ends` on
-abbrev pub refused_at_end : ℕ → Line → Sections → Option ℕ
-refused_at_end missing opens s = at s.closes where
-  at : Option Line → Option ℕ
-  at None = Some missing
-  at (Some l) = if closes_well (head_of opens) (transistors_of s.cell) then first_not is_common s.behind else Some l.line
+abbrev pub refused_at_end : ℕ → Head → List Line → Option Line → List Line → Option ℕ
+refused_at_end missing head cell None behind = Some missing
+refused_at_end missing head cell (Some l) behind = if closes_well head (transistors_of cell) then first_not is_common behind else Some l.line
 
 -- the first refused line from the cell's `.subckt` on
-abbrev pub refused_in_cell : ℕ → Sections → Option ℕ
-refused_in_cell missing s = at s.opens where
-  at : Option Line → Option ℕ
-  at None = Some missing
-  at (Some l) = if opens_well l then first_of_both (first_not is_transistor s.cell) (refused_at_end missing l s) else Some l.line
+abbrev pub refused_in_cell : ℕ → Option Line → List Line → Option Line → List Line → Option ℕ
+refused_in_cell missing None cell closes behind = Some missing
+refused_in_cell missing (Some l) cell closes behind = if opens_well l then first_of_both (first_not is_transistor cell) (refused_at_end missing (head_of l) cell closes behind) else Some l.line
 
 -- the first refused line, missing being the number of lines and one
 abbrev pub refused_in : ℕ → Sections → Option ℕ
-refused_in missing s = first_of_both (first_not is_common s.before) (refused_in_cell missing s)
+refused_in missing s = first_of_both (first_not is_common s.before) (refused_in_cell missing s.opens s.cell s.closes s.behind)
 
 abbrev pub head_or_none : Option Line → Head
 head_or_none None = record { name = []; ports = [] }
@@ -179,9 +186,16 @@ early_library bytes = let s = sections (kept_lines 1 bytes) in unless_refused (r
 abbrev pub places_count : List Device → ℕ
 places_count devices = sum_by (λ (d : Device). length d.nodes + 1) devices
 
+-- a device of an M card: four nodes and a model
+pub record IsTransistor (d : Device) : Type 0 where
+  pub letter : first_byte d.name ≡ 109
+  pub nodes_four : length d.nodes ≡ 4
+  pub typed : is_some d.model ≡ true
+
 -- what is read from a file that is not too long
 pub record IsEarlyDeck (d : EarlyDeck) : Type 0 where
   pub cards : All IsDeviceCard d.devices
+  pub transistors : All IsTransistor d.devices
   pub places : places_count d.devices ≤ 67108864
   pub globals_few : length d.globals ≤ 67108864
 
@@ -196,4 +210,5 @@ pub record IsCellOf (head : Head) (devices : List Device) : Type 0 where
 pub record IsEarlyLibrary (l : EarlyLibrary) : Type 0 where
   pub cell : IsCellOf l.head l.devices
   pub places : places_count l.devices ≤ 67108864
+  pub ports_few : length l.head.ports ≤ 67108864
   pub globals_few : length l.globals ≤ 67108864

@@ -12,7 +12,7 @@ pub fn rows()
     ensures short { read_card (record { line = 2; text = codes "m1 a b c nch" }) ≡ Err (short_card 2 5 6) }
     ensures unknown { read_card (record { line = 2; text = codes "q1 c b e mod" }) ≡ Err (unknown_card 2 113) }
     ensures control { read_card (record { line = 2; text = codes ".control" }) ≡ Err (control_block 2) }
-    ensures row_31 { printed (card_of (codes "M1 OUT,IN (VDD VDD) PCH  W=4U L=1U")) ≡ codes "m1 out in vdd vdd pch W=4U L=1U" }
+    ensures parentheses_and_commas { printed (card_of (codes "M1 OUT,IN (VDD VDD) PCH  W=4U L=1U")) ≡ codes "m1 out in vdd vdd pch W=4U L=1U" }
 {}
 
 /// Some decks.
@@ -35,9 +35,9 @@ pub fn decks()
 
 /// Flat decks.
 pub fn flats()
-    ensures row_31 { flat_job None (codes "t\nM1 OUT,IN (VDD VDD) PCH  W=4U\n* note\n+ L=1U\n.END\njunk\n") ≡ Ok (codes "t\nm1 out in vdd vdd pch W=4U L=1U\n.end\n") }
-    ensures row_13 { flat_job None (codes "clash\n.subckt s a\nr1 a n 1k\nr2 n 0 1k\n.ends\nx1 p s\nr3 x1.n 0 2k\n.end\n") ≡ Err (name_clash (codes "x1.n")) }
-    ensures row_23 { flat_job None (codes "nest\n.subckt cellb p\nm3 p n 0 0 nch w=1u\nc1 n 0 1p\n.ends\n.subckt cella q\nx1 q cellb\n.ends\nx2 top1 cella\n.end\n")
+    ensures continued_over_a_comment { flat_job None (codes "t\nM1 OUT,IN (VDD VDD) PCH  W=4U\n* note\n+ L=1U\n.END\njunk\n") ≡ Ok (codes "t\nm1 out in vdd vdd pch W=4U L=1U\n.end\n") }
+    ensures clash { flat_job None (codes "clash\n.subckt s a\nr1 a n 1k\nr2 n 0 1k\n.ends\nx1 p s\nr3 x1.n 0 2k\n.end\n") ≡ Err (name_clash (codes "x1.n")) }
+    ensures nest { flat_job None (codes "nest\n.subckt cellb p\nm3 p n 0 0 nch w=1u\nc1 n 0 1p\n.ends\n.subckt cella q\nx1 q cellb\n.ends\nx2 top1 cella\n.end\n")
         ≡ Ok (codes "nest\nm.x2.x1.m3 top1 x2.x1.n 0 0 nch w=1u\nc.x2.x1.c1 x2.x1.n 0 1p\n.end\n") }
 {}
 

@@ -1,0 +1,4 @@
+pub mod OnceLaws
+pub mod TextLaws
+pub mod TypeLaws
+pub mod RowLaws

@@ -1,0 +1,43 @@
+-- The pattern of a cell. This project's own.
+use Rattle.std.specs.Prelude.{ℕ, ◌≤◌, List, length, map, position, Option, Some, None, All}
+use Rattle.gl_text.specs.LogicalLines.{same_text}
+use Rattle.gl_text.specs.Cards.{Device as Card, Head, IsDeviceCard}
+use Rattle.gl_text.specs.EarlyDecks.{places_count, IsCellOf}
+use Rattle.gl_match.specs.declared.role.Role.{Role}
+use Rattle.gl_match.specs.declared.role.Role.TheVariants.{Port, Rail, Inner}
+use Rattle.gl_match.specs.Graph.{Circuit, Pattern}
+use Rattle.gl_base.specs.Rails.{all_rails, AreRails}
+use Rattle.gl_base.specs.BaseCircuit.{Source, nets_of, net_number, device_of}
+
+-- what a net is, by its place among the rails and among the ports
+abbrev pub role_by : Option ℕ → Option ℕ → Role
+role_by (Some rail) port = Rail rail
+role_by None (Some port) = Port port
+role_by None None = Inner
+
+-- a net is a rail of the run by its name, port or not; else a port; else inner
+abbrev pub role_of : List (List ℕ) → List (List ℕ) → List ℕ → Role
+role_of rails ports net = role_by (position (same_text net) (all_rails rails)) (position (same_text net) ports)
+
+-- the pattern of a cell: its cards with the type numbers of the circuit, its own nets, and the net of each port
+abbrev pub pattern_of : Source → Head → List Card → Pattern
+pattern_of s head cards = let nets = nets_of cards in record {
+  devices = map (device_of s nets) cards;
+  roles = map (role_of s.rails head.ports) nets;
+  ports = map (net_number nets) head.ports;
+}
+
+-- the circuit of a deck, the pattern of a cell, and the names of the circuit's nets by their numbers
+pub record Base : Type 0 where
+  pub circuit : Circuit
+  pub pattern : Pattern
+  pub nets : List (List ℕ)
+
+-- what a base of one cell is made from: cards as they are read, a cell of which each port stands on a card, rails that differ, and few enough of all
+pub record IsOneCell (rails : List (List ℕ)) (devices : List Card) (head : Head) (cell : List Card) : Type 0 where
+  pub deck_cards : All IsDeviceCard devices
+  pub whole_cell : IsCellOf head cell
+  pub rails_differ : AreRails rails
+  pub deck_places : places_count devices ≤ 67108864
+  pub cell_places : places_count cell ≤ 67108864
+  pub few_rails : length rails ≤ 134217728

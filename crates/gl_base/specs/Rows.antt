@@ -1,0 +1,80 @@
+-- Decks and cells on which the definitions are computed.
+use Rattle.std.specs.Prelude.{ℕ, List, [], ◌∷◌, Some, None, codes}
+use Rattle.gl_text.specs.Cards.{Device as Card, Model, Head}
+use Rattle.gl_base.specs.BaseCircuit.{Source}
+
+-- a transistor
+abbrev pub transistor : List ℕ → List ℕ → List ℕ → List ℕ → List ℕ → List ℕ → Card
+transistor name drain gate source bulk model = record { name = name; nodes = drain ∷ gate ∷ source ∷ bulk ∷ []; model = Some model; tail = [] }
+
+-- a resistor
+abbrev pub resistor : List ℕ → List ℕ → List ℕ → Card
+resistor name first second = record { name = name; nodes = first ∷ second ∷ []; model = None; tail = [] }
+
+-- a model
+abbrev pub model : List ℕ → List ℕ → Model
+model name word = record { name = name; word = word; tail = [] }
+
+-- the models of both transistors
+abbrev pub both_models : List Model
+both_models = model (codes "nch") (codes "nmos") ∷ model (codes "pch") (codes "pmos") ∷ []
+
+-- an inverter from a to y
+abbrev pub inverter_head : Head
+inverter_head = record { name = codes "inv"; ports = codes "a" ∷ codes "y" ∷ [] }
+
+abbrev pub inverter_cell : List Card
+inverter_cell = transistor (codes "mp") (codes "y") (codes "a") (codes "vdd") (codes "vdd") (codes "pch")
+    ∷ transistor (codes "mn") (codes "y") (codes "a") (codes "0") (codes "0") (codes "nch") ∷ []
+
+-- a deck of one inverter
+abbrev pub one_inverter : Source
+one_inverter = record {
+  rails = codes "vdd" ∷ [];
+  deck_models = both_models;
+  library_models = [];
+  devices = transistor (codes "m1") (codes "out") (codes "in") (codes "vdd") (codes "vdd") (codes "pch")
+      ∷ transistor (codes "m2") (codes "out") (codes "in") (codes "0") (codes "0") (codes "nch") ∷ [];
+  cells = inverter_cell ∷ [];
+  pinned = [];
+}
+
+-- a pass gate between p and q
+abbrev pub pass_gate_head : Head
+pass_gate_head = record { name = codes "tg"; ports = codes "p" ∷ codes "q" ∷ codes "c" ∷ codes "cb" ∷ [] }
+
+abbrev pub pass_gate_cell : List Card
+pass_gate_cell = transistor (codes "mn") (codes "p") (codes "c") (codes "q") (codes "0") (codes "nch")
+    ∷ transistor (codes "mp") (codes "p") (codes "cb") (codes "q") (codes "vdd") (codes "pch") ∷ []
+
+-- a deck of one pass gate
+abbrev pub one_pass_gate : Source
+one_pass_gate = record {
+  rails = codes "vdd" ∷ [];
+  deck_models = both_models;
+  library_models = [];
+  devices = transistor (codes "m1") (codes "u") (codes "s") (codes "v") (codes "0") (codes "nch")
+      ∷ transistor (codes "m2") (codes "u") (codes "sb") (codes "v") (codes "vdd") (codes "pch") ∷ [];
+  cells = pass_gate_cell ∷ [];
+  pinned = [];
+}
+
+-- a cell whose port is named as a rail, with a model that the deck and the library define otherwise, and one that neither defines
+abbrev pub mixed_head : Head
+mixed_head = record { name = codes "r"; ports = codes "vdd" ∷ codes "p" ∷ [] }
+
+abbrev pub mixed_cell : List Card
+mixed_cell = transistor (codes "m1") (codes "vdd") (codes "p") (codes "w") (codes "n") (codes "nch")
+    ∷ transistor (codes "m2") (codes "vdd") (codes "p") (codes "w") (codes "n") (codes "nmos")
+    ∷ resistor (codes "r1") (codes "n") (codes "p") ∷ []
+
+-- a deck of a resistor and a transistor, whose globals `w` and `vdd` stand on no device, with two pinned names
+abbrev pub mixed : Source
+mixed = record {
+  rails = codes "w" ∷ codes "vdd" ∷ [];
+  deck_models = model (codes "nch") (codes "nmos") ∷ model (codes "nch") (codes "other") ∷ [];
+  library_models = model (codes "nch") (codes "pmos") ∷ model (codes "lib") (codes "njf") ∷ [];
+  devices = resistor (codes "r1") (codes "b") (codes "0") ∷ transistor (codes "m1") (codes "c") (codes "b") (codes "0") (codes "0") (codes "lib") ∷ [];
+  cells = mixed_cell ∷ [];
+  pinned = codes "c" ∷ codes "w" ∷ codes "b" ∷ [];
+}

@@ -1,0 +1,11 @@
+//! The definitions that stand between decks and circuits: rails, types, the circuit of a deck, the pattern of a cell, and reports.
+#![tactic(auto)]
+
+mod laws;
+mod reports;
+
+pub use laws::{
+    inverter_rows, mixed_rows, names_stand_once, numbers_lead_back, pass_gate_rows, rail_rows,
+    rails_differ, same_types_are_equal,
+};
+pub use reports::reports_compute;

@@ -1,0 +1,7 @@
+pub mod FaultLaws
+pub mod KindLaws
+pub mod LetterLaws
+pub mod PartLaws
+pub mod PrintLaws
+pub mod ReadLaws
+pub mod TailBounds

@@ -1,0 +1,54 @@
+ghost use Rattle.std.specs.Prelude.{◌≡◌};
+ghost use Rattle.gl_desk.specs.declared.fault.ReadFault.TheVariants.{Failed as DeskFailed, Memory as NoMemory};
+
+use std::alloc::{AllocError, AllocFailed};
+
+/// A call of a desk failed.
+#[derive(Clone, Copy, Debug, PartialEq, Eq)]
+pub struct Failed;
+
+/// No memory was found.
+#[derive(Clone, Copy, Debug, PartialEq, Eq)]
+pub struct Memory;
+
+/// Why a whole read failed.
+#[derive(Clone, Copy, Debug, PartialEq, Eq)]
+pub enum ReadFault {
+    /// A call of the desk failed: the count of the slot's faults rose.
+    Failed,
+    /// The input is longer than 67,108,864 bytes.
+    Long {
+        /// How many bytes were taken: one more than a file may have.
+        number: u32,
+    },
+    /// No memory was found.
+    Memory,
+}
+
+impl From<AllocError> for Memory {
+    fn from(_: AllocError) -> Self {
+        Memory
+    }
+}
+
+impl<T: Drop> From<AllocFailed<T>> for Memory {
+    fn from(_: AllocFailed<T>) -> Self {
+        Memory
+    }
+}
+
+impl From<Failed> for ReadFault {
+    ghost from_gives = { λ _ e. e ≡ DeskFailed };
+
+    fn from(_: Failed) -> Self {
+        ReadFault::Failed
+    }
+}
+
+impl From<AllocError> for ReadFault {
+    ghost from_gives = { λ _ e. e ≡ NoMemory };
+
+    fn from(_: AllocError) -> Self {
+        ReadFault::Memory
+    }
+}

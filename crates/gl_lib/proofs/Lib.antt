@@ -1,0 +1,11 @@
+pub mod InsertLaws
+pub mod WordLaws
+pub mod RailLaws
+pub mod KindLaws
+pub mod FaultLaws
+pub mod CardLaws
+pub mod CircuitLaws
+pub mod PatternLaws
+pub mod BaseLaws
+pub mod TableLaws
+pub mod BuildLaws

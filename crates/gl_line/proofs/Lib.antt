@@ -1,0 +1,4 @@
+pub mod FirstLine
+pub mod Groups
+pub mod RunLaws
+pub mod Trims

@@ -1,0 +1,9 @@
+use Rattle.std.proofs.Common.{◌≡◌, length}
+use Rattle.gl_text.specs.LogicalLines as line
+use Rattle.gl_line.proofs.trim.trim_loose.Given as goal
+
+abbrev pub invariant-loop-rest : goal.invariant-loop-rest
+invariant-loop-rest l = line.trim_front line.is_loose l.rest ≡ line.trim_front line.is_loose l.text
+
+abbrev pub decreases-loop-rest : goal.decreases-loop-rest
+decreases-loop-rest l = length l.rest

@@ -1,0 +1,4 @@
+pub mod PartLaws
+pub mod LineLaws
+pub mod ListLaws
+pub mod NamedLaws

@@ -1,0 +1,53 @@
+-- Texts that are given one after another, the last perhaps in part.
+use Rattle.std.proofs.Common.{◌≡◌, ◌+◌, ◌<◌, ◌≤◌, ◌++◌, ℕ, List, [], Option, None, Some, refl, ap, sym, ◌∙◌, arith, take, length, append_assoc, length-append, inl, inr, subst}
+use Rattle.std.specs.Option.{option_map}
+use Rattle.std.proofs.Math.Seq.{take-append-add}
+use Rattle.std.proofs.lemmas.List.{take-append-le}
+use Rattle.gl_run.specs.Saying.{GivesOrFails}
+use Rattle.gl_desk.specs.Desk.{View, Gives, GivesFront, HasRisen}
+
+map_twice : (x y : List ℕ) (o : Option (List ℕ)) → option_map (λ s. s ++ y) (option_map (λ s. s ++ x) o) ≡ option_map (λ s. s ++ (x ++ y)) o
+map_twice x y None = refl
+map_twice x y (Some s) = ap Some (append_assoc s x y)
+
+-- a text and then a front of another
+pub gives_then_front : (a b c : View) (x y : List ℕ) → Gives a b x → GivesFront b c y → GivesFront a c (x ++ y)
+gives_then_front a b c x y p q =
+    let n = q.front.0 in
+    let step : c.given ≡ option_map (λ s. s ++ (x ++ take n y)) a.given = q.front.1 ∙ (ap (option_map (λ s. s ++ take n y)) p.given ∙ map_twice x (take n y) a.given) in
+    record {
+      front = (length x + n, step ∙ ap (λ t. option_map (λ s. s ++ t) a.given) (sym (take-append-add x y n)), omega (arith, q.front.2, length-append x y));
+      left = q.left ∙ p.left;
+      taken = q.taken ∙ p.taken;
+      used = q.used ∙ p.used;
+      never_falls = omega (arith, p.faults, q.never_falls);
+      faults = later q.faults;
+    } where
+      later : HasRisen b.faults c.faults → HasRisen a.faults c.faults
+      later (inl lt) = inl (omega (arith, lt, p.faults))
+      later (inr end) = inr end
+
+-- a front of a text is one of a longer text
+pub front_longer : (a b : View) (x y : List ℕ) → GivesFront a b x → GivesFront a b (x ++ y)
+front_longer a b x y p = record {
+  front = (p.front.0, p.front.1 ∙ ap (λ t. option_map (λ s. s ++ t) a.given) (sym (take-append-le p.front.0 x y (omega (arith, p.front.2)))), omega (arith, p.front.2, length-append x y));
+  left = p.left;
+  taken = p.taken;
+  used = p.used;
+  never_falls = p.never_falls;
+  faults = p.faults;
+}
+
+-- a text and then another
+pub gives_both : (a b c : View) (x y : List ℕ) → Gives a b x → Gives b c y → Gives a c (x ++ y)
+gives_both a b c x y p q = record {
+  left = q.left ∙ p.left;
+  given = q.given ∙ (ap (option_map (λ s. s ++ y)) p.given ∙ map_twice x y a.given);
+  taken = q.taken ∙ p.taken;
+  used = q.used ∙ p.used;
+  faults = omega (arith, p.faults, q.faults);
+}
+
+-- what was said of a text holds of each text that equals it
+pub same_said : (a b : View) (x y : List ℕ) → x ≡ y → GivesOrFails a b x → GivesOrFails a b y
+same_said a b x y e h = subst (GivesOrFails a b) e h

@@ -1,0 +1,10 @@
+pub mod Words
+pub mod Names
+pub mod Messages
+pub mod Saying
+pub mod Reading
+pub mod Lift
+pub mod Inputs
+pub mod Endings
+pub mod Writing
+pub mod Completeness
