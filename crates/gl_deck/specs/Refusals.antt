@@ -1,0 +1,43 @@
+-- What a refusal of the code means, and what reading gives.
+use Rattle.std.specs.Prelude.{◌≡◌, Option, Some, None, option_map, Result, Ok, Err, ⊤}
+use Rattle.gl_text.specs.LogicalLines as lines
+use Rattle.gl_text.specs.LogicalLines.{Fault}
+use Rattle.gl_deck.specs.declared.fault.DeckFault.{DeckFault}
+use Rattle.gl_deck.specs.declared.fault.DeckFault.TheVariants as faults
+
+-- the refusal, or nothing for want of memory
+abbrev pub fault_of : DeckFault → Option Fault
+fault_of (faults.LoosePlus line) = Some (lines.loose_plus line)
+fault_of (faults.LongLine line len) = Some (lines.long_line line len)
+fault_of (faults.LongName line len) = Some (lines.long_name line len)
+fault_of (faults.UnknownCard line byte) = Some (lines.unknown_card line byte)
+fault_of (faults.ShortCard line has needs) = Some (lines.short_card line has needs)
+fault_of (faults.ControlBlock line) = Some (lines.control_block line)
+fault_of (faults.NestedSubckt line) = Some (lines.nested_subckt line)
+fault_of (faults.LooseEnds line) = Some (lines.loose_ends line)
+fault_of (faults.WrongEnds line) = Some (lines.wrong_ends line)
+fault_of (faults.OpenSubckt line) = Some (lines.open_subckt line)
+fault_of (faults.LocalCard line) = Some (lines.local_card line)
+fault_of (faults.Parameters line) = Some (lines.parameters line)
+fault_of (faults.DuplicateName line first) = Some (lines.duplicate_name line first)
+fault_of (faults.DuplicatePort line) = Some (lines.duplicate_port line)
+fault_of (faults.ZeroPort line) = Some (lines.zero_port line)
+fault_of (faults.LongTail line len) = Some (lines.long_tail line len)
+fault_of (faults.UnknownSubckt line) = Some (lines.unknown_subckt line)
+fault_of (faults.WrongNodeCount line has needs) = Some (lines.wrong_node_count line has needs)
+fault_of (faults.Recursive line) = Some (lines.recursive line)
+fault_of faults.Memory = None
+
+-- there is a refusal exactly where one is wanted, and it is that one
+abbrev pub Refuses : Option DeckFault → Option Fault → Type 0
+Refuses given wanted = option_map fault_of given ≡ option_map (λ f. Some f) wanted
+
+-- the refusal that was given is this one; want of memory may come in place of any answer
+abbrev pub IsRefusal : {V : Type 0} → Option Fault → Result V Fault → Type 0
+IsRefusal None wanted = ⊤
+IsRefusal (Some fault) wanted = wanted ≡ Err fault
+
+-- the value exactly where one is wanted, and it is that one; else the wanted refusal; want of memory may come in place of either
+abbrev pub Gives : {V : Type 0} → Result V DeckFault → Result V Fault → Type 0
+Gives (Ok v) wanted = wanted ≡ Ok v
+Gives (Err fault) wanted = IsRefusal (fault_of fault) wanted

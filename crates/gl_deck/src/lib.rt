@@ -1,0 +1,14 @@
+//! Decks: the cards of a file, read as their definition has them or refused with the first refusal.
+#![tactic(auto)]
+
+mod body;
+mod deck;
+mod fault;
+mod site;
+mod sub;
+
+pub use body::Body;
+pub use deck::Deck;
+pub use fault::DeckFault;
+pub use gl_card::{CallCard, Card, DevCard, Head, Letter, Memory, ModelCard, Name, Tail};
+pub use sub::Sub;
