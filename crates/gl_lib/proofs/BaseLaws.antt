@@ -8,7 +8,7 @@ use Rattle.gl_match.proofs.Lists.{Once}
 use Rattle.gl_text.specs.LogicalLines.{same_text}
 use Rattle.gl_text.specs.Cards.{Device as Card, Model, Head, IsDeviceCard}
 use Rattle.gl_text.specs.Decks.{is_in as is_name_in}
-use Rattle.gl_text.specs.EarlyDecks.{places_count, IsCellOf}
+use Rattle.gl_text.specs.OneCell.{places_count, IsCellOf}
 use Rattle.gl_match.specs.Graph.{Circuit, Pattern, Device}
 use Rattle.gl_graph.specs.declared.fault.BuildFault.TheVariants.{NoDevice}
 use Rattle.gl_graph.specs.Built.{circuit_size, pattern_size, count_places}

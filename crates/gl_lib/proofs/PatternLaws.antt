@@ -11,7 +11,7 @@ use Rattle.gl_match.proofs.Says.{all_says}
 use Rattle.gl_text.specs.LogicalLines.{same_text}
 use Rattle.gl_text.specs.Cards.{Device as Card, Head, IsDeviceCard}
 use Rattle.gl_text.specs.Decks.{is_in as is_name_in}
-use Rattle.gl_text.specs.EarlyDecks.{is_on_card}
+use Rattle.gl_text.specs.OneCell.{is_on_card}
 use Rattle.gl_match.specs.declared.role.Role.{Role}
 use Rattle.gl_match.specs.declared.role.Role.TheVariants.{Port, Rail, Inner}
 use Rattle.gl_match.specs.Graph.{Device, Pattern, is_some_at, is_in}

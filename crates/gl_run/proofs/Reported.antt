@@ -4,7 +4,7 @@ use Rattle.std.proofs.lemmas.List.{length-map}
 use Rattle.gl_match.specs.Graph.{Circuit, Pattern, FitsInto}
 use Rattle.gl_match.specs.Listing.{Instance, Listed}
 use Rattle.gl_text.specs.Cards.{Device as Card, Model, Head}
-use Rattle.gl_text.specs.EarlyDecks.{EarlyDeck, EarlyLibrary}
+use Rattle.gl_text.specs.OneCell.{EarlyDeck, EarlyLibrary}
 use Rattle.gl_base.specs.BaseCircuit.{net_number, device_of, nets_of}
 use Rattle.gl_base.specs.Reports.{ReportNames, IsReportable, early_report}
 use Rattle.gl_graph.specs.Built.{IsBuilt, IsBuiltPattern}

@@ -1,6 +1,6 @@
 -- Which status comes where the inputs are told and no call on them fails: the converse of what the endings mean.
 use Rattle.std.specs.Prelude.{◌≡◌, ◌⊎◌, ℕ, ◌<◌, ◌≤◌, List, Some, Err, length}
-use Rattle.gl_text.specs.EarlyDecks.{early_deck, early_library}
+use Rattle.gl_text.specs.OneCell.{early_deck, early_library}
 use Rattle.gl_run.specs.Reading.{Seen, HasCause}
 use Rattle.gl_run.specs.Lift.{IsDeck, IsLibrary}
 

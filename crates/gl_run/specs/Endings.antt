@@ -2,7 +2,7 @@
 use Rattle.std.specs.Prelude.{◌≡◌, ◌≢◌, ℕ, ◌≤◌, length, List, [], Option, None, Some, take, Err, IfSome}
 use Rattle.gl_desk.specs.declared.slot.Slot.{Slot}
 use Rattle.gl_desk.specs.declared.slot.Slot.TheVariants.{Deck, Library, Report}
-use Rattle.gl_text.specs.EarlyDecks.{early_deck, early_library}
+use Rattle.gl_text.specs.OneCell.{early_deck, early_library}
 use Rattle.gl_run.specs.declared.ending.Ending.{Ending}
 use Rattle.gl_run.specs.declared.ending.Ending.TheVariants as endings
 use Rattle.gl_run.specs.Words.{Request}

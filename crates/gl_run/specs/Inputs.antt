@@ -1,7 +1,7 @@
 -- What was read of the two inputs of the job `lift`, or why there is nothing.
 use Rattle.std.specs.Prelude.{◌≡◌, ℕ, ◌≤◌, length, List, [], Ok, Err, IfSome}
 use Rattle.gl_desk.specs.declared.slot.Slot.TheVariants.{Deck, Library}
-use Rattle.gl_text.specs.EarlyDecks.{EarlyDeck, EarlyLibrary, IsEarlyDeck, IsEarlyLibrary, early_deck, early_library}
+use Rattle.gl_text.specs.OneCell.{EarlyDeck, EarlyLibrary, IsEarlyDeck, IsEarlyLibrary, early_deck, early_library}
 use Rattle.gl_run.specs.declared.ending.Ending.{Ending}
 use Rattle.gl_run.specs.declared.ending.Ending.TheVariants as endings
 use Rattle.gl_run.specs.Reading.{Seen, Unread}

@@ -3,7 +3,7 @@ use Rattle.std.specs.Prelude.{◌≡◌, ◌≤◌, ℕ, List, [], ◌∷◌, le
 use Rattle.gl_match.specs.Graph.{Circuit, Pattern}
 use Rattle.gl_match.specs.Listing.{Instance, Listed}
 use Rattle.gl_text.specs.Cards.{Device as Card}
-use Rattle.gl_text.specs.EarlyDecks.{EarlyDeck, EarlyLibrary, early_deck, early_library}
+use Rattle.gl_text.specs.OneCell.{EarlyDeck, EarlyLibrary, early_deck, early_library}
 use Rattle.gl_base.specs.Rails.{run_rails}
 use Rattle.gl_base.specs.BaseCircuit.{Source, one_cell, circuit_of, nets_of}
 use Rattle.gl_base.specs.Patterns.{pattern_of}

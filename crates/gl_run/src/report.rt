@@ -2,7 +2,7 @@ ghost use Rattle.std.specs.Prelude.{◌≡◌, IfOk, length};
 ghost use Rattle.gl_match.specs.Graph.{FitsInto};
 ghost use Rattle.gl_match.specs.Listing.{Listed};
 ghost use Rattle.gl_base.specs.Reports.{IsReportable};
-ghost use Rattle.gl_text.specs.EarlyDecks.{IsEarlyDeck, IsEarlyLibrary};
+ghost use Rattle.gl_text.specs.OneCell.{IsEarlyDeck, IsEarlyLibrary};
 ghost use Rattle.gl_run.specs.Lift.{IsReport, base_circuit, cell_pattern, nets_by_name, names_of};
 
 use gl_early::{EarlyDeck, EarlyLibrary, Name};

@@ -1,12 +1,12 @@
 -- A printed X card is read again.
-use Rattle.std.proofs.Common.{◌≡◌, ◌≤◌, ◌<◌, ◌+◌, ◌-◌, ℕ, zero, suc, List, [], ◌∷◌, ◌++◌, length, take, drop, map, cond, eqb, ltb, true, false, Bool, Option, Some, None, Ok, refl, sym, ap, ◌∙◌, append_assoc, arith}
+use Rattle.std.proofs.Common.{◌≡◌, ℕ, List, [], ◌∷◌, ◌++◌, length, eqb, ltb, false, None, Ok, refl, sym, ap, ◌∙◌, arith}
 use Rattle.std.specs.Prelude.{◌&&◌, ◌||◌}
 use Rattle.std.specs.List.{AllByRecursion, join_with_byte, list_any}
 use Rattle.std.proofs.lemmas.List.{append-nil, length-append}
 use Rattle.std.proofs.lemmas.Bool.{le-ltb, or_parts}
-use Rattle.gl_text.specs.LogicalLines.{parameters, Line, is_blank, is_separator, fields_of, fold_byte}
+use Rattle.gl_text.specs.LogicalLines.{parameters, Line, is_blank, is_separator, fields_of}
 use Rattle.gl_text.specs.WayBack.{IsName, IsCall}
-use Rattle.gl_text.specs.Cards.{Card, call, Kind, caller, kinds, by_byte, kind_of, card_of, card_by, read_card, with_tail, printed, when, names_of, tail_at, all_fields, no_card, no_card_by, has_parameters, has_nodes, has_long_tail, tail_fault, but_last, last_name}
+use Rattle.gl_text.specs.Cards.{call, caller, kind_of, card_of, card_by, read_card, printed, when, names_of, tail_at, all_fields, no_card, no_card_by, has_parameters, has_nodes, has_long_tail, tail_fault, but_last, last_name}
 use Rattle.gl_text.proofs.CardLaws.{names_are, short_names, all_none, kind_is}
 
 abbrev NoEqual : List ℕ → Type 0

@@ -1,5 +1,5 @@
 -- A printed device is read again.
-use Rattle.std.proofs.Common.{◌≡◌, ◌≤◌, ◌<◌, ◌+◌, ◌-◌, ℕ, zero, suc, List, [], ◌∷◌, ◌++◌, length, take, drop, map, cond, eqb, ltb, true, false, Bool, Option, Some, None, Ok, refl, sym, ap, ◌∙◌, append_assoc, arith}
+use Rattle.std.proofs.Common.{◌≡◌, ℕ, List, [], ◌∷◌, ◌++◌, length, take, drop, map, cond, eqb, ltb, false, Option, Some, None, Ok, refl, ap, ◌∙◌, append_assoc, arith}
 use Rattle.std.specs.Prelude.{◌&&◌, filter, option_to_list}
 use Rattle.std.specs.List.{AllByRecursion, join_with_byte, list_any}
 use Rattle.std.proofs.Math.Seq.{take-append_seam}
@@ -7,7 +7,7 @@ use Rattle.std.proofs.lemmas.List.{append-nil, length-append}
 use Rattle.std.proofs.lemmas.Bool.{le-ltb}
 use Rattle.gl_text.specs.LogicalLines.{NAME, TAIL, Fault, long_name, long_tail, parameters, first_field, Line, Piece, is_separator, onto, pieces_of, is_field, fields_of, folded, fold_byte, tail_of}
 use Rattle.gl_text.specs.WayBack.{IsName, IsDevice}
-use Rattle.gl_text.specs.Cards.{Device, Card, dev, Kind, device, kinds, by_byte, kind_of, word_in, dot_words, behind, card_of, card_by, read_card, with_tail, printed, first_some, when, names_of, tail_at, front, all_fields, spaced, no_card, no_card_by, has_parameters, has_nodes, has_long_tail, tail_fault, or_else}
+use Rattle.gl_text.specs.Cards.{Card, dev, Kind, device, kinds, by_byte, kind_of, word_in, dot_words, behind, card_of, card_by, read_card, with_tail, printed, first_some, when, names_of, tail_at, front, all_fields, spaced, no_card, no_card_by, has_parameters, has_nodes, has_long_tail, tail_fault, or_else}
 
 -- ---- names
 

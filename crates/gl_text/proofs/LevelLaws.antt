@@ -1,11 +1,11 @@
 -- Where each X card goes down by a number of the subcircuits, none is recursive.
-use Rattle.std.proofs.Common.{◌≡◌, ◌≤◌, ◌<◌, ℕ, zero, suc, List, [], ◌∷◌, ◌++◌, length, map, cond, eqb, true, false, Bool, refl, sym, ap, ◌∙◌, arith, inl, inr}
-use Rattle.std.specs.Prelude.{◌||◌, ◌&&◌, ◌⊎◌, filter, flat_map}
+use Rattle.std.proofs.Common.{◌≡◌, ◌≤◌, ◌<◌, ℕ, zero, suc, List, [], ◌∷◌, ◌++◌, length, map, cond, eqb, true, false, Bool, refl, arith, inl, inr}
+use Rattle.std.specs.Prelude.{◌||◌, ◌&&◌, filter, flat_map}
 use Rattle.std.specs.List.{AllByRecursion, list_any}
 use Rattle.std.proofs.lemmas.Bool.{eqb-true, cases_Bool}
 use Rattle.gl_text.specs.LogicalLines.{same_text}
 use Rattle.gl_text.specs.Levels.{Down}
-use Rattle.gl_text.specs.Decks.{Sub, Body, dev_at, call_at, callees, is_in, step, steps, reaches}
+use Rattle.gl_text.specs.Decks.{Sub, callees, is_in, step, steps, reaches}
 
 same_by : (b : Bool) (x y : ℕ) (xs ys : List ℕ) → eqb x y ≡ b → (same_text xs ys ≡ true → xs ≡ ys) → (b && same_text xs ys) ≡ true → x ∷ xs ≡ y ∷ ys
 same_by true x y xs ys e ih h = let f = eqb-true x y e in let g = ih h in cc

@@ -1,7 +1,7 @@
 -- One card.
-use Rattle.std.specs.Prelude.{◌≡◌, ℕ, zero, suc, ◌+◌, ◌-◌, ◌==◌, ◌||◌, ◌&&◌, not, nat_le, nat_lt, Bool, true, false, List, [], ◌∷◌, ◌++◌, length, take, drop, map, filter, flat_map, Option, Some, None, Result, Ok, Err, codes, slice_get, option_to_list, option_map, if◌then◌else◌}
-use Rattle.std.specs.List.{last_or, join_with_byte, list_any}
-use Rattle.gl_text.specs.LogicalLines.{NAME, TAIL, Fault, loose_plus, long_name, unknown_card, short_card, control_block, parameters, long_tail, Piece, fields_of, first_field, fold_byte, folded, is_blank, trim_end, tail_of, same_text, begins, Line}
+use Rattle.std.specs.Prelude.{◌≡◌, ℕ, zero, suc, ◌==◌, ◌&&◌, nat_lt, Bool, true, false, List, [], ◌∷◌, ◌++◌, length, take, drop, map, Option, Some, None, Result, Ok, Err, codes, slice_get, option_to_list, if◌then◌else◌}
+use Rattle.std.specs.List.{join_with_byte, list_any}
+use Rattle.gl_text.specs.LogicalLines.{NAME, TAIL, Fault, long_name, unknown_card, short_card, control_block, parameters, long_tail, Piece, fields_of, first_field, fold_byte, folded, is_blank, trim_end, tail_of, same_text, Line}
 
 -- M, D, R, C, L, V and I cards; the letter is the name's first byte
 pub record Device : Type 0 where

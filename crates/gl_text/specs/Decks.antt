@@ -1,5 +1,5 @@
 -- A deck.
-use Rattle.std.specs.Prelude.{ℕ, zero, suc, ◌+◌, ◌-◌, ◌==◌, ◌||◌, ◌&&◌, not, nat_le, nat_lt, Bool, true, false, List, [], ◌∷◌, ◌++◌, length, take, drop, map, filter, flat_map, filter_map, fold, find, scan, Option, Some, None, option_map, is_some, Result, Ok, Err, codes, if◌then◌else◌}
+use Rattle.std.specs.Prelude.{ℕ, zero, suc, ◌==◌, ◌||◌, ◌&&◌, not, nat_lt, Bool, true, false, List, [], ◌∷◌, ◌++◌, length, map, filter, flat_map, filter_map, fold, find, Option, Some, None, option_map, Result, Ok, Err, codes, if◌then◌else◌}
 use Rattle.std.specs.List.{list_any}
 use Rattle.gl_text.specs.LogicalLines.{LINE, Fault, long_line, nested_subckt, loose_ends, wrong_ends, open_subckt, local_card, duplicate_name, duplicate_port, zero_port, unknown_subckt, wrong_node_count, recursive, same_text, title_of, after_title, Line, logical_lines}
 use Rattle.gl_text.specs.Cards.{Device, Call, Model, Head, Card, dev, call, model, subckt, ends, global, ended, passed, first_some, when, or_else, no_card, has_parameters, has_long_tail, card_of, printed}

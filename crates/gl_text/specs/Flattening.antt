@@ -1,6 +1,6 @@
 -- A flat deck.
-use Rattle.std.specs.Prelude.{ℕ, zero, suc, ◌+◌, ◌-◌, ◌==◌, ◌||◌, ◌&&◌, not, nat_le, nat_lt, Bool, true, false, List, [], ◌∷◌, ◌++◌, length, take, drop, map, filter, flat_map, sum_by, find, zip, Option, Some, None, option_map, option_map, unwrap_or, Result, Ok, Err, codes, if◌then◌else◌}
-use Rattle.std.specs.List.{list_any, list_all}
+use Rattle.std.specs.Prelude.{ℕ, zero, suc, ◌+◌, ◌||◌, ◌&&◌, not, nat_lt, Bool, true, false, List, [], ◌∷◌, ◌++◌, length, map, filter, flat_map, sum_by, find, zip, Option, Some, None, option_map, option_map, unwrap_or, Result, Ok, Err, codes, if◌then◌else◌}
+use Rattle.std.specs.List.{list_any}
 use Rattle.gl_text.specs.LogicalLines.{NAME, Fault, name_clash, long_flat_name, too_many_cards, too_many_devices, too_deep, no_top, top_devices, long_text, same_text}
 use Rattle.gl_text.specs.Cards.{Device, Call, Model, Head, dev, model, subckt, ends, global, passed, ended, first_some, when, or_else, first_byte}
 use Rattle.gl_text.specs.Decks.{◌>>=◌, Body, dev_at, call_at, Sub, Deck, read_deck, is_in, find_sub, callees, line_of}

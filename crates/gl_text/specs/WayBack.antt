@@ -1,5 +1,5 @@
 -- Names and devices that were read.
-use Rattle.std.specs.Prelude.{◌≡◌, ◌≤◌, ◌==◌, ℕ, List, [], ◌∷◌, ◌++◌, length, Option, nat_lt, true, false, option_to_list}
+use Rattle.std.specs.Prelude.{◌≡◌, ◌≤◌, ℕ, List, [], ◌∷◌, ◌++◌, length, Option, nat_lt, true, false, option_to_list}
 use Rattle.std.specs.List.{AllByRecursion}
 use Rattle.gl_text.specs.LogicalLines.{NAME, TAIL, is_separator, folded, fold_byte, tail_of}
 use Rattle.gl_text.specs.Cards.{Kind, caller, device, kinds, by_byte}

@@ -5,6 +5,7 @@ ghost use Rattle.gl_text.specs.Decks.{read_deck, Sub, reaches};
 ghost use Rattle.gl_text.specs.WayBack.{IsCall, IsDevice};
 ghost use Rattle.gl_text.specs.Levels.{Down};
 ghost use Rattle.gl_text.specs.Flattening.{flat_job};
+ghost use Rattle.gl_text.specs.OneCell.{device_deck, cell_library, refused, not_yet};
 
 /// Some cards.
 pub fn rows()
@@ -85,4 +86,18 @@ pub fn more_rows()
     ensures x { flat_job None (codes "t\nx1 a b s w=1\n") ≡ Err (parameters 2) }
     ensures flat_name { flat_job None (codes "t\n.subckt s a\nr1 a " ++ replicate 1022 110 ++ codes " 1\n.ends\nx1 p s\n") ≡ Err (long_flat_name 1025) }
     ensures device_clash { flat_job None (codes "t\n.subckt s a\nr1 a 0 1\n.ends\nx1 p s\nr.x1.r1 p 0 1\n") ≡ Err (name_clash (codes "r.x1.r1")) }
+{}
+
+/// Decks and libraries that are not taken yet.
+pub fn takings()
+    ensures devices { device_deck (codes "t\nr1 a b 1k\n.global vdd\n") ≡ Ok (record { globals = codes "vdd" ∷ []; models = []; devices = record { name = codes "r1"; nodes = codes "a" ∷ codes "b" ∷ []; model = None; tail = codes "1k" } ∷ [] }) }
+    ensures loose { device_deck (codes "t\n+ x\n") ≡ Err (refused (loose_plus 2)) }
+    ensures call_first { device_deck (codes "t\nr1 a b 1k\nx1 a s\n.subckt s a\n.ends\n") ≡ Err (not_yet 3) }
+    ensures subckt_first { device_deck (codes "t\n.subckt s a\n.ends\nx1 a s\n") ≡ Err (not_yet 2) }
+    ensures cell { cell_library (codes ".subckt s a\nr1 a 0 1k\n.ends\n.options x\n") ≡ Ok (record { globals = []; models = []; head = record { name = codes "s"; ports = codes "a" ∷ [] }; devices = record { name = codes "r1"; nodes = codes "a" ∷ codes "0" ∷ []; model = None; tail = codes "1k" } ∷ [] }) }
+    ensures none { cell_library (codes ".model n nmos\n\n") ≡ Err (not_yet 3) }
+    ensures hollow { cell_library (codes ".subckt s a\n.ends\n") ≡ Err (not_yet 1) }
+    ensures port_on_no_card { cell_library (codes "\n.subckt s a b\nr1 a 0 1k\n.ends\n") ≡ Err (not_yet 2) }
+    ensures second { cell_library (codes ".subckt s a b\nr1 a 0 1k\n.ends\n.subckt u a\nr1 a 0 1k\n.ends\n") ≡ Err (not_yet 4) }
+    ensures top { cell_library (codes "r1 a b 1\n.subckt s a\n.ends\n") ≡ Err (not_yet 1) }
 {}

@@ -1,7 +1,7 @@
 use Rattle.std.proofs.Common.{rules, ◌≡◌, ◌≤◌, length, ℕ, List, sym, ap, ◌∙◌, subst}
 use Rattle.std.specs.Prelude.{Ok, Err, IsOk, Result}
 use Rattle.gl_desk.specs.declared.slot.Slot.TheVariants.{Library}
-use Rattle.gl_text.specs.EarlyDecks.{EarlyLibrary, early_library}
+use Rattle.gl_text.specs.OneCell.{EarlyLibrary, early_library}
 use Rattle.gl_run.specs.Lift.{IsLibrary}
 use Rattle.gl_run.proofs.Told.{told_as, is_ok_as, refused_as}
 use Rattle.gl_run.proofs.inputs.read_library.Goals as goal
