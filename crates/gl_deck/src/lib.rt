@@ -4,6 +4,7 @@
 mod body;
 mod deck;
 mod fault;
+mod read;
 mod site;
 mod sub;
 

@@ -1,9 +1,0 @@
-pub mod CardLemmas
-pub mod FieldLemmas
-pub mod FirstLine
-pub mod FirstPlaces
-pub mod KnownLemmas
-pub mod OnceLemmas
-pub mod SectionLemmas
-pub mod SizeLemmas
-pub mod Trims

@@ -1,9 +1,0 @@
-use Rattle.std.proofs.Common.{◌≡◌, ◌≤◌, length}
-use Rattle.gl_text.specs.LogicalLines as line
-use Rattle.gl_early.proofs.fields.without_separators.Given as goal
-
-abbrev pub invariant-loop-rest : goal.invariant-loop-rest
-invariant-loop-rest l = (line.trim_front line.is_separator l.rest ≡ line.trim_front line.is_separator l.text) × (length l.rest ≤ length l.text)
-
-abbrev pub decreases-loop-rest : goal.decreases-loop-rest
-decreases-loop-rest l = length l.rest

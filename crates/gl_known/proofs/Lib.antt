@@ -1,0 +1,10 @@
+pub mod Ascent
+pub mod CardKinds
+pub mod CardsRead
+pub mod DeckSizes
+pub mod DecksRead
+pub mod DecksTaken
+pub mod Fields
+pub mod Lines
+pub mod Placing
+pub mod Totals

@@ -1,0 +1,29 @@
+ghost use Rattle.std.specs.Prelude.{◌≡◌, ◌≤◌, List, ℕ, Bool, length, sum_by, Ok, codes, IsOkAnd, true, false};
+ghost use Rattle.gl_text.specs.LogicalLines.{FILE};
+ghost use Rattle.gl_text.specs.Decks.{Deck, file_lines, read_deck};
+ghost use Rattle.gl_text.specs.OneCell.{DeviceDeck, CellLibrary, device_deck, cell_library, IsDeviceDeck, IsCellLibrary};
+ghost use Rattle.gl_known.specs.Known.{line_size, deck_size, IsKnownDeck};
+
+/// The logical lines of a file are together no longer than its bytes.
+pub fn lines_are_short()
+    ensures together { (has_title : Bool) (bytes : List ℕ) → sum_by line_size (file_lines has_title bytes) ≤ length bytes }
+{}
+
+/// A deck that is read has cards such as are read, and its size is at most the number of bytes.
+pub fn read_decks_are_known()
+    ensures known { (has_title : Bool) (bytes : List ℕ) (deck : Deck) → read_deck has_title bytes ≡ Ok deck → IsKnownDeck (length bytes) deck }
+{}
+
+/// A deck of devices, and a library of one cell, that are taken from a file that is not too long.
+pub fn taken_decks_are_known()
+    ensures devices { (bytes : List ℕ) (d : DeviceDeck) → length bytes ≤ FILE → device_deck bytes ≡ Ok d → IsDeviceDeck d }
+    ensures cell { (bytes : List ℕ) (l : CellLibrary) → length bytes ≤ FILE → cell_library bytes ≡ Ok l → IsCellLibrary l }
+{}
+
+/// The sizes of a deck and of logical lines.
+pub fn sizes()
+    ensures deck { IsOkAnd (read_deck true (codes "t\n.global vdd 0 VDD gnd\n.subckt s a b\nr1 a b 1k\nm1 a b 0 0 nch w=1\n.ends\nx1 p vdd s\nc1 p 0 1p\n.model nch nmos\n.options x\n")) (λ deck. deck_size deck ≡ 21) }
+    ensures empty { IsOkAnd (read_deck false (codes "* nothing\n")) (λ deck. deck_size deck ≡ 0) }
+    ensures lines { sum_by line_size (file_lines true (codes "title\nr1 a b\n* note\n+ 1k \n\nc1 a b 1p\n.end\nx")) ≡ 23 }
+    ensures refused { sum_by line_size (file_lines false (codes "+ x\n")) ≡ 0 }
+{}

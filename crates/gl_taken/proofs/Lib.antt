@@ -1,0 +1,4 @@
+mod FirstLine
+mod OnceLaws
+mod EarliestLaws
+mod TakingLaws
