@@ -1,6 +1,7 @@
 -- Texts that are given one after another, the last perhaps in part.
 use Rattle.std.proofs.Common.{◌≡◌, ◌+◌, ◌<◌, ◌≤◌, ◌++◌, ℕ, List, [], Option, None, Some, refl, ap, sym, ◌∙◌, arith, take, length, append_assoc, length-append, inl, inr, subst}
 use Rattle.std.specs.Option.{option_map}
+use Rattle.std.specs.Prelude.{Result, Ok, Err, OnErr}
 use Rattle.std.proofs.Math.Seq.{take-append-add}
 use Rattle.std.proofs.lemmas.List.{take-append-le}
 use Rattle.gl_run.specs.Saying.{GivesOrFails}
@@ -51,3 +52,8 @@ gives_both a b c x y p q = record {
 -- what was said of a text holds of each text that equals it
 pub same_said : (a b : View) (x y : List ℕ) → x ≡ y → GivesOrFails a b x → GivesOrFails a b y
 same_said a b x y e h = subst (GivesOrFails a b) e h
+
+-- what holds anyway holds of a refusal
+pub on_err : {A E : Type 0} {P : Type 0} (r : Result A E) → P → OnErr r P
+on_err (Ok x) p = tt
+on_err (Err e) p = p

@@ -4,14 +4,14 @@ use Rattle.std.proofs.lemmas.List.{length-map}
 use Rattle.gl_match.specs.Graph.{Circuit, Pattern, FitsInto}
 use Rattle.gl_match.specs.Listing.{Instance, Listed}
 use Rattle.gl_text.specs.Cards.{Device as Card, Model, Head}
-use Rattle.gl_text.specs.OneCell.{EarlyDeck, EarlyLibrary}
+use Rattle.gl_text.specs.OneCell.{DeviceDeck, CellLibrary}
 use Rattle.gl_base.specs.BaseCircuit.{net_number, device_of, nets_of}
 use Rattle.gl_base.specs.Reports.{ReportNames, IsReportable, early_report}
 use Rattle.gl_graph.specs.Built.{IsBuilt, IsBuiltPattern}
 use Rattle.gl_report.specs.Naming.{IsNaming}
 use Rattle.gl_run.specs.Lift.{IsReport, source_of, base_circuit, cell_pattern, nets_by_name, names_of}
 
-pub names_fit : (deck : EarlyDeck) (library : EarlyLibrary) → IsNaming (names_of deck library) (base_circuit deck library) (cell_pattern deck library)
+pub names_fit : (deck : DeviceDeck) (library : CellLibrary) → IsNaming (names_of deck library) (base_circuit deck library) (cell_pattern deck library)
 names_fit deck library =
     let s = source_of deck library in
     record {
@@ -22,13 +22,13 @@ names_fit deck library =
     }
 
 -- the same of the built circuit and pattern
-pub names_fit_built : (deck : EarlyDeck) (library : EarlyLibrary) (c : Circuit) (p : Pattern) → c ≡ base_circuit deck library → p ≡ cell_pattern deck library
+pub names_fit_built : (deck : DeviceDeck) (library : CellLibrary) (c : Circuit) (p : Pattern) → c ≡ base_circuit deck library → p ≡ cell_pattern deck library
     → IsNaming (names_of deck library) c p
 names_fit_built deck library c p same-c same-p =
     subst (λ (d : Circuit). IsNaming (names_of deck library) d p) (sym same-c) (subst (IsNaming (names_of deck library) (base_circuit deck library)) (sym same-p) (names_fit deck library))
 
 -- a complete list of what was built, and the text of its report
-pub is_report : (deck : EarlyDeck) (library : EarlyLibrary) (c : Circuit) (p : Pattern) (items : List Instance) (text : List ℕ)
+pub is_report : (deck : DeviceDeck) (library : CellLibrary) (c : Circuit) (p : Pattern) (items : List Instance) (text : List ℕ)
     → c ≡ base_circuit deck library → p ≡ cell_pattern deck library → Listed c p items → text ≡ early_report (names_of deck library) items → IsReport deck library text
 is_report deck library c p items text same-c same-p listed text-is = record {
   items = items;

@@ -1,6 +1,6 @@
 -- Which status comes where the inputs are told and no call on them fails: the converse of what the endings mean.
 use Rattle.std.specs.Prelude.{◌≡◌, ◌⊎◌, ℕ, ◌<◌, ◌≤◌, List, Some, Err, length}
-use Rattle.gl_text.specs.OneCell.{early_deck, early_library}
+use Rattle.gl_text.specs.OneCell.{Cause, device_deck, cell_library}
 use Rattle.gl_run.specs.Reading.{Seen, HasCause}
 use Rattle.gl_run.specs.Lift.{IsDeck, IsLibrary}
 
@@ -16,7 +16,7 @@ IsStatus status wanted = (status ≡ wanted) ⊎ (status ≡ 9)
 -- each input in turn is too long, refused or accepted; where both are accepted, the status is 0
 pub record IsComplete (status : ℕ) (deck library report : Seen) : Type 0 where
   pub deck_long : (d : List ℕ) → IsSound deck d → 67108864 < length d → IsStatus status 6
-  pub deck_refused : (d : List ℕ) (line : ℕ) → IsSound deck d → length d ≤ 67108864 → early_deck d ≡ Err line → IsStatus status 2
+  pub deck_refused : (d : List ℕ) (cause : Cause) → IsSound deck d → length d ≤ 67108864 → device_deck d ≡ Err cause → IsStatus status 2
   pub library_long : (d l : List ℕ) → IsSound deck d → IsDeck d → IsSound library l → 67108864 < length l → IsStatus status 6
-  pub library_refused : (d l : List ℕ) (line : ℕ) → IsSound deck d → IsDeck d → IsSound library l → length l ≤ 67108864 → early_library l ≡ Err line → IsStatus status 3
+  pub library_refused : (d l : List ℕ) (cause : Cause) → IsSound deck d → IsDeck d → IsSound library l → length l ≤ 67108864 → cell_library l ≡ Err cause → IsStatus status 3
   pub done : (d l : List ℕ) → IsSound deck d → IsDeck d → IsSound library l → IsLibrary l → ¬ HasCause report → IsStatus status 0

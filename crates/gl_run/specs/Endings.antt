@@ -2,7 +2,8 @@
 use Rattle.std.specs.Prelude.{◌≡◌, ◌≢◌, ℕ, ◌≤◌, length, List, [], Option, None, Some, take, Err, IfSome}
 use Rattle.gl_desk.specs.declared.slot.Slot.{Slot}
 use Rattle.gl_desk.specs.declared.slot.Slot.TheVariants.{Deck, Library, Report}
-use Rattle.gl_text.specs.OneCell.{early_deck, early_library}
+use Rattle.gl_text.specs.OneCell.{device_deck, cell_library}
+use Rattle.gl_taken.specs.Causes.{cause_of}
 use Rattle.gl_run.specs.declared.ending.Ending.{Ending}
 use Rattle.gl_run.specs.declared.ending.Ending.TheVariants as endings
 use Rattle.gl_run.specs.Words.{Request}
@@ -37,10 +38,10 @@ pub record IsUnwritten (deck library report : Seen) : Type 0 where
 abbrev pub Unmade : Ending → Seen → Seen → Type 0
 Unmade (endings.Read Deck) deck library = HasCause deck
 Unmade (endings.LongFile Deck) deck library = IsLong deck
-Unmade (endings.DeckRefused line) deck library = IfSome deck.held (λ d. (length d ≤ 67108864) × (early_deck d ≡ Err line))
+Unmade (endings.DeckRefused refusal) deck library = IfSome deck.held (λ d. (length d ≤ 67108864) × (device_deck d ≡ Err (cause_of refusal)))
 Unmade (endings.Read Library) deck library = HasCause library × IfSome deck.held IsDeck
 Unmade (endings.LongFile Library) deck library = IsLong library × IfSome deck.held IsDeck
-Unmade (endings.LibraryRefused line) deck library = IfSome deck.held IsDeck × IfSome library.held (λ l. (length l ≤ 67108864) × (early_library l ≡ Err line))
+Unmade (endings.LibraryRefused refusal) deck library = IfSome deck.held IsDeck × IfSome library.held (λ l. (length l ≤ 67108864) × (cell_library l ≡ Err (cause_of refusal)))
 Unmade endings.Memory deck library = Unit {0}
 Unmade _ deck library = ⊥
 

@@ -1,5 +1,7 @@
 pub mod Words
 pub mod Names
+pub mod RefusalTexts
+pub mod Parts
 pub mod Messages
 pub mod Saying
 pub mod Reading

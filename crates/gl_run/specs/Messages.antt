@@ -1,7 +1,9 @@
 -- Statuses, and the line that is said of each, after docs/FORMATS.md.
-use Rattle.std.specs.Prelude.{ℕ, List, [], ◌++◌, codes, decimal}
+use Rattle.std.specs.Prelude.{ℕ, List, [], ◌++◌, codes}
 use Rattle.gl_desk.specs.declared.slot.Slot.{Slot}
 use Rattle.gl_desk.specs.declared.slot.Slot.TheVariants.{Deck, Library, Map, Lifted, NewMap, Report, Out, Says}
+use Rattle.gl_taken.specs.Causes.{cause_of}
+use Rattle.gl_run.specs.RefusalTexts.{cause_text}
 use Rattle.gl_run.specs.declared.ending.Ending.{Ending}
 use Rattle.gl_run.specs.declared.ending.Ending.TheVariants as endings
 
@@ -9,8 +11,8 @@ use Rattle.gl_run.specs.declared.ending.Ending.TheVariants as endings
 abbrev pub status_of : Ending → ℕ
 status_of endings.Done = 0
 status_of endings.Words = 1
-status_of (endings.DeckRefused line) = 2
-status_of (endings.LibraryRefused line) = 3
+status_of (endings.DeckRefused refusal) = 2
+status_of (endings.LibraryRefused refusal) = 3
 status_of (endings.LongFile slot) = 6
 status_of (endings.Read slot) = 7
 status_of (endings.Write slot) = 8
@@ -31,8 +33,8 @@ slot_name Says = codes "Says"
 abbrev pub line_of : Ending → List ℕ
 line_of endings.Done = []
 line_of endings.Words = codes "gatelift: 1 words\n"
-line_of (endings.DeckRefused line) = codes "gatelift: 2 deck: 60 NotYet line=" ++ decimal line ++ codes "\n"
-line_of (endings.LibraryRefused line) = codes "gatelift: 3 library: 60 NotYet line=" ++ decimal line ++ codes "\n"
+line_of (endings.DeckRefused refusal) = codes "gatelift: 2 deck: " ++ cause_text (cause_of refusal) ++ codes "\n"
+line_of (endings.LibraryRefused refusal) = codes "gatelift: 3 library: " ++ cause_text (cause_of refusal) ++ codes "\n"
 line_of (endings.LongFile slot) = codes "gatelift: 6 limit: LongFile slot=" ++ slot_name slot ++ codes " number=67108865\n"
 line_of (endings.Read slot) = codes "gatelift: 7 read: " ++ slot_name slot ++ codes "\n"
 line_of (endings.Write slot) = codes "gatelift: 8 write: " ++ slot_name slot ++ codes "\n"

@@ -3,6 +3,7 @@ ghost use Rattle.gl_run.specs.Messages.{status_of};
 ghost use Rattle.gl_run.specs.declared.ending.Ending.{Ending as End};
 
 use gl_desk::Slot;
+use gl_taken::Refusal;
 
 /// How a run ends.
 #[derive(Clone, Copy, Debug, PartialEq, Eq)]
@@ -11,16 +12,10 @@ pub enum Ending {
     Done,
     /// The words name no job.
     Words,
-    /// The deck has a line that is not taken yet; its number, from 1.
-    DeckRefused {
-        /// The line, the title being line 1.
-        line: u32,
-    },
-    /// The library has a line that is not taken yet; its number, from 1.
-    LibraryRefused {
-        /// The line, or one more than the lines where something is missing at the end.
-        line: u32,
-    },
+    /// The deck is refused.
+    DeckRefused(Refusal),
+    /// The library is refused.
+    LibraryRefused(Refusal),
     /// The file at an input is longer than a file may be.
     LongFile {
         /// The input.
@@ -48,8 +43,8 @@ impl Ending {
         match self {
             Ending::Done => 0,
             Ending::Words => 1,
-            Ending::DeckRefused { .. } => 2,
-            Ending::LibraryRefused { .. } => 3,
+            Ending::DeckRefused(_) => 2,
+            Ending::LibraryRefused(_) => 3,
             Ending::LongFile { .. } => 6,
             Ending::Read { .. } => 7,
             Ending::Write { .. } => 8,

@@ -7,11 +7,11 @@ ghost use Rattle.gl_run.specs.declared.ending.Ending.{Ending as End};
 use crate::ending::Ending;
 use crate::reading::read;
 use gl_desk::{Desk, Slot};
-use gl_early::{EarlyDeck, EarlyFault, EarlyLibrary};
+use gl_taken::{CellLibrary, DeviceDeck, TakenFault};
 use std::alloc::Global;
 
 /// Reads the deck by its word.
-pub fn read_deck<D: Desk>(alloc: Global, desk: &mut D, word: &str) -> Result<EarlyDeck, Ending>
+pub fn read_deck<D: Desk>(alloc: Global, desk: &mut D, word: &str) -> Result<DeviceDeck, Ending>
     requires free { (D.shows desk.old Slot.Deck).used ≡ false }
     ensures deck { IfOk result (λ deck. HasRead (seen D.shows D.held D.wants desk.old desk.new Slot.Deck word.now) deck) }
     ensures none { IfErr result (λ ending. NoDeck ending (seen D.shows D.held D.wants desk.old desk.new Slot.Deck word.now)) }
@@ -20,10 +20,10 @@ pub fn read_deck<D: Desk>(alloc: Global, desk: &mut D, word: &str) -> Result<Ear
     ensures names { NamesSame D.held D.wants desk.old desk.new }
 {
     let bytes = read(alloc, desk, Slot::Deck, word)?;
-    match gl_early::read_deck(alloc, &bytes) {
+    match DeviceDeck::read(alloc, &bytes) {
         Ok(deck) => Ok(deck),
-        Err(EarlyFault::NotYet { line }) => Err(Ending::DeckRefused { line }),
-        Err(EarlyFault::Memory) => Err(Ending::Memory),
+        Err(TakenFault::Refused(refusal)) => Err(Ending::DeckRefused(refusal)),
+        Err(TakenFault::Memory) => Err(Ending::Memory),
     }
 }
 
@@ -32,7 +32,7 @@ pub fn read_library<D: Desk>(
     alloc: Global,
     desk: &mut D,
     word: &str,
-) -> Result<EarlyLibrary, Ending>
+) -> Result<CellLibrary, Ending>
     requires free { (D.shows desk.old Slot.Library).used ≡ false }
     ensures library { IfOk result (λ library. HasReadLibrary (seen D.shows D.held D.wants desk.old desk.new Slot.Library word.now) library) }
     ensures none { IfErr result (λ ending. NoLibrary ending (seen D.shows D.held D.wants desk.old desk.new Slot.Library word.now)) }
@@ -41,9 +41,9 @@ pub fn read_library<D: Desk>(
     ensures names { NamesSame D.held D.wants desk.old desk.new }
 {
     let bytes = read(alloc, desk, Slot::Library, word)?;
-    match gl_early::read_library(alloc, &bytes) {
+    match CellLibrary::read(alloc, &bytes) {
         Ok(library) => Ok(library),
-        Err(EarlyFault::NotYet { line }) => Err(Ending::LibraryRefused { line }),
-        Err(EarlyFault::Memory) => Err(Ending::Memory),
+        Err(TakenFault::Refused(refusal)) => Err(Ending::LibraryRefused(refusal)),
+        Err(TakenFault::Memory) => Err(Ending::Memory),
     }
 }

@@ -6,6 +6,7 @@ mod inputs;
 mod job;
 mod making;
 mod reading;
+mod refusal;
 mod report;
 mod says;
 mod words;

@@ -2,10 +2,10 @@ ghost use Rattle.std.specs.Prelude.{◌≡◌, IfOk, length};
 ghost use Rattle.gl_match.specs.Graph.{FitsInto};
 ghost use Rattle.gl_match.specs.Listing.{Listed};
 ghost use Rattle.gl_base.specs.Reports.{IsReportable};
-ghost use Rattle.gl_text.specs.OneCell.{IsEarlyDeck, IsEarlyLibrary};
+ghost use Rattle.gl_text.specs.OneCell.{IsDeviceDeck, IsCellLibrary};
 ghost use Rattle.gl_run.specs.Lift.{IsReport, base_circuit, cell_pattern, nets_by_name, names_of};
 
-use gl_early::{EarlyDeck, EarlyLibrary, Name};
+use gl_taken::{DeviceDeck, CellLibrary, Name};
 use gl_legal::{CellList, plain};
 use gl_lib::{Base, Parts, base_of, run_rails};
 use gl_match::Memory;
@@ -13,9 +13,9 @@ use gl_report::{Names, complete_lists_are_named, print};
 use std::alloc::{AllocError, Global};
 
 /// The circuit of the deck and the pattern of the library's cell.
-fn base(alloc: Global, deck: &EarlyDeck, library: &EarlyLibrary) -> Result<Base, AllocError>
-    requires deck { IsEarlyDeck deck.now }
-    requires library { IsEarlyLibrary library.now }
+fn base(alloc: Global, deck: &DeviceDeck, library: &CellLibrary) -> Result<Base, AllocError>
+    requires deck { IsDeviceDeck deck.now }
+    requires library { IsCellLibrary library.now }
     ensures circuit { IfOk result (λ base. base.circuit ≡ base_circuit deck.now library.now) }
     ensures pattern { IfOk result (λ base. base.pattern ≡ cell_pattern deck.now library.now) }
     ensures nets { IfOk result (λ base. base.nets ≡ nets_by_name deck.now) }
@@ -34,7 +34,7 @@ fn base(alloc: Global, deck: &EarlyDeck, library: &EarlyLibrary) -> Result<Base,
 }
 
 /// The names that the report prints.
-fn names_for<'a>(deck: &'a EarlyDeck, library: &'a EarlyLibrary, base: &'a Base) -> Names<'a>
+fn names_for<'a>(deck: &'a DeviceDeck, library: &'a CellLibrary, base: &'a Base) -> Names<'a>
     requires { base.now.nets ≡ nets_by_name deck.now }
     ensures names { result ≡ names_of deck.now library.now }
 {
@@ -47,7 +47,7 @@ fn names_for<'a>(deck: &'a EarlyDeck, library: &'a EarlyLibrary, base: &'a Base)
 }
 
 /// All that the list speaks of has a name.
-fn know_names(base: &Base, list: &CellList, deck: &EarlyDeck, library: &EarlyLibrary)
+fn know_names(base: &Base, list: &CellList, deck: &DeviceDeck, library: &CellLibrary)
     requires circuit { base.now.circuit ≡ base_circuit deck.now library.now }
     requires pattern { base.now.pattern ≡ cell_pattern deck.now library.now }
     requires fits { FitsInto base.now.circuit base.now.pattern }
@@ -64,9 +64,9 @@ fn know_names(base: &Base, list: &CellList, deck: &EarlyDeck, library: &EarlyLib
 }
 
 /// The report of the library's cell in the deck's circuit.
-pub fn report_of(alloc: Global, deck: &EarlyDeck, library: &EarlyLibrary) -> Result<Vec<u8>, Memory>
-    requires deck { IsEarlyDeck deck.now }
-    requires library { IsEarlyLibrary library.now }
+pub fn report_of(alloc: Global, deck: &DeviceDeck, library: &CellLibrary) -> Result<Vec<u8>, Memory>
+    requires deck { IsDeviceDeck deck.now }
+    requires library { IsCellLibrary library.now }
     ensures report { IfOk result (λ text. IsReport deck.now library.now text.items) }
 {
     let base = base(alloc, deck, library)?;

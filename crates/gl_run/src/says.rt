@@ -1,10 +1,15 @@
-ghost use Rattle.std.specs.Prelude.{◌≡◌, ◌++◌, true, OnOk, OnErr};
+ghost use Rattle.std.specs.Prelude.{◌≡◌, ◌++◌, codes, decimal, true, OnOk, OnErr};
 ghost use Rattle.gl_desk.specs.Desk.{Gives, GivesFront, OthersSame, NamesSame};
 ghost use Rattle.gl_run.specs.Messages.{slot_name};
+ghost use Rattle.gl_taken.specs.Causes.{cause_of};
+ghost use Rattle.gl_run.specs.Parts.{field_part, numbers_of};
+ghost use Rattle.gl_run.specs.RefusalTexts.{cause_text};
 ghost use Rattle.gl_run.specs.Saying.{GivesOrFails, Speaks};
 
 use crate::ending::Ending;
+use crate::refusal::{Field, RefusalText, text_of_refusal};
 use gl_desk::{Desk, Failed, Slot, write_all};
+use gl_taken::Refusal;
 use itoa::Buffer;
 
 /// The name of a slot, as messages have it.
@@ -50,6 +55,110 @@ fn say_texts<D: Desk>(desk: &mut D, front: &str, middle: &str, end: &str)
     }
 }
 
+/// Gives two texts, one after the other.
+fn give_two<D: Desk>(desk: &mut D, first: &str, second: &str) -> Result<(), Failed>
+    requires says { (D.shows desk.old Slot.Says).used ≡ true }
+    ensures ok { OnOk result (Gives (D.shows desk.old Slot.Says) (D.shows desk.new Slot.Says) (first.now ++ second.now)) }
+    ensures err { OnErr result (GivesFront (D.shows desk.old Slot.Says) (D.shows desk.new Slot.Says) (first.now ++ second.now)) }
+    ensures others { OthersSame D.shows desk.old desk.new Slot.Says }
+    ensures names { NamesSame D.held D.wants desk.old desk.new }
+{
+    write_all(desk, Slot::Says, first.as_bytes())?;
+    write_all(desk, Slot::Says, second.as_bytes())?;
+    Ok(())
+}
+
+/// Gives a number behind its key.
+fn give_number<D: Desk>(desk: &mut D, key: &str, value: u32) -> Result<(), Failed>
+    requires says { (D.shows desk.old Slot.Says).used ≡ true }
+    ensures ok { OnOk result (Gives (D.shows desk.old Slot.Says) (D.shows desk.new Slot.Says) (key.now ++ decimal value)) }
+    ensures err { OnErr result (GivesFront (D.shows desk.old Slot.Says) (D.shows desk.new Slot.Says) (key.now ++ decimal value)) }
+    ensures others { OthersSame D.shows desk.old desk.new Slot.Says }
+    ensures names { NamesSame D.held D.wants desk.old desk.new }
+{
+    let mut buffer = Buffer::new();
+    give_two(desk, key, buffer.format(value))
+}
+
+/// Gives a number behind its key, if there is one.
+fn give_field<D: Desk>(desk: &mut D, field: Option<Field>) -> Result<(), Failed>
+    requires says { (D.shows desk.old Slot.Says).used ≡ true }
+    ensures ok { OnOk result (Gives (D.shows desk.old Slot.Says) (D.shows desk.new Slot.Says) (field_part field)) }
+    ensures err { OnErr result (GivesFront (D.shows desk.old Slot.Says) (D.shows desk.new Slot.Says) (field_part field)) }
+    ensures others { OthersSame D.shows desk.old desk.new Slot.Says }
+    ensures names { NamesSame D.held D.wants desk.old desk.new }
+{
+    match field {
+        Some(field) => give_number(desk, field.key, field.value),
+        None => Ok(()),
+    }
+}
+
+/// Gives up to two numbers behind their keys.
+fn give_fields<D: Desk>(desk: &mut D, second: Option<Field>, third: Option<Field>) -> Result<(), Failed>
+    requires says { (D.shows desk.old Slot.Says).used ≡ true }
+    ensures ok { OnOk result (Gives (D.shows desk.old Slot.Says) (D.shows desk.new Slot.Says) (field_part second ++ field_part third)) }
+    ensures err { OnErr result (GivesFront (D.shows desk.old Slot.Says) (D.shows desk.new Slot.Says) (field_part second ++ field_part third)) }
+    ensures others { OthersSame D.shows desk.old desk.new Slot.Says }
+    ensures names { NamesSame D.held D.wants desk.old desk.new }
+{
+    give_field(desk, second)?;
+    give_field(desk, third)?;
+    Ok(())
+}
+
+/// Gives the numbers of a refusal, the line first.
+fn give_numbers<D: Desk>(desk: &mut D, text: RefusalText) -> Result<(), Failed>
+    requires says { (D.shows desk.old Slot.Says).used ≡ true }
+    ensures ok { OnOk result (Gives (D.shows desk.old Slot.Says) (D.shows desk.new Slot.Says) (numbers_of text)) }
+    ensures err { OnErr result (GivesFront (D.shows desk.old Slot.Says) (D.shows desk.new Slot.Says) (numbers_of text)) }
+    ensures others { OthersSame D.shows desk.old desk.new Slot.Says }
+    ensures names { NamesSame D.held D.wants desk.old desk.new }
+{
+    give_number(desk, " line=", text.line)?;
+    give_fields(desk, text.second, text.third)?;
+    Ok(())
+}
+
+/// Gives a front, and a refusal.
+fn give_refusal<D: Desk>(desk: &mut D, front: &str, text: RefusalText) -> Result<(), Failed>
+    requires says { (D.shows desk.old Slot.Says).used ≡ true }
+    ensures ok { OnOk result (Gives (D.shows desk.old Slot.Says) (D.shows desk.new Slot.Says) ((front.now ++ text.name.now) ++ numbers_of text)) }
+    ensures err { OnErr result (GivesFront (D.shows desk.old Slot.Says) (D.shows desk.new Slot.Says) ((front.now ++ text.name.now) ++ numbers_of text)) }
+    ensures others { OthersSame D.shows desk.old desk.new Slot.Says }
+    ensures names { NamesSame D.held D.wants desk.old desk.new }
+{
+    give_two(desk, front, text.name)?;
+    give_numbers(desk, text)?;
+    Ok(())
+}
+
+/// Gives a line that a file is refused.
+fn give_line<D: Desk>(desk: &mut D, front: &str, text: RefusalText) -> Result<(), Failed>
+    requires says { (D.shows desk.old Slot.Says).used ≡ true }
+    ensures ok { OnOk result (Gives (D.shows desk.old Slot.Says) (D.shows desk.new Slot.Says) (((front.now ++ text.name.now) ++ numbers_of text) ++ codes "\n")) }
+    ensures err { OnErr result (GivesFront (D.shows desk.old Slot.Says) (D.shows desk.new Slot.Says) (((front.now ++ text.name.now) ++ numbers_of text) ++ codes "\n")) }
+    ensures others { OthersSame D.shows desk.old desk.new Slot.Says }
+    ensures names { NamesSame D.held D.wants desk.old desk.new }
+{
+    give_refusal(desk, front, text)?;
+    write_all(desk, Slot::Says, b"\n")?;
+    Ok(())
+}
+
+/// Says that a file is refused. It takes no memory.
+fn say_refusal<D: Desk>(desk: &mut D, front: &str, refusal: Refusal)
+    requires says { (D.shows desk.old Slot.Says).used ≡ true }
+    ensures given { GivesOrFails (D.shows desk.old Slot.Says) (D.shows desk.new Slot.Says) (front.now ++ cause_text (cause_of refusal) ++ codes "\n") }
+    ensures others { OthersSame D.shows desk.old desk.new Slot.Says }
+    ensures names { NamesSame D.held D.wants desk.old desk.new }
+{
+    match give_line(desk, front, text_of_refusal(refusal)) {
+        Ok(()) => {}
+        Err(Failed) => {}
+    }
+}
+
 /// Says the line of an ending, or its front up to a call that fails; nothing where all is written. It takes no memory.
 pub fn say<D: Desk>(desk: &mut D, ending: Ending)
     requires says { (D.shows desk.old Slot.Says).used ≡ true }
@@ -57,26 +166,11 @@ pub fn say<D: Desk>(desk: &mut D, ending: Ending)
     ensures others { OthersSame D.shows desk.old desk.new Slot.Says }
     ensures names { NamesSame D.held D.wants desk.old desk.new }
 {
-    let mut buffer = Buffer::new();
     match ending {
         Ending::Done => {}
         Ending::Words => say_texts(desk, "gatelift: 1 words\n", "", ""),
-        Ending::DeckRefused { line } => {
-            say_texts(
-                desk,
-                "gatelift: 2 deck: 60 NotYet line=",
-                buffer.format(line),
-                "\n",
-            )
-        }
-        Ending::LibraryRefused { line } => {
-            say_texts(
-                desk,
-                "gatelift: 3 library: 60 NotYet line=",
-                buffer.format(line),
-                "\n",
-            )
-        }
+        Ending::DeckRefused(refusal) => say_refusal(desk, "gatelift: 2 deck: ", refusal),
+        Ending::LibraryRefused(refusal) => say_refusal(desk, "gatelift: 3 library: ", refusal),
         Ending::LongFile { slot } => {
             say_texts(
                 desk,

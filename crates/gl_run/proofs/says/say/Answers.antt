@@ -4,16 +4,6 @@ use Rattle.gl_desk.specs.declared.slot.Slot.TheVariants.{Says}
 use Rattle.gl_run.specs.Saying.{GivesOrFails}
 use Rattle.gl_run.proofs.says.say.Goals as goal
 
-pub returns-in-DeckRefused-clause-line : goal.returns-in-DeckRefused-clause-line
-returns-in-DeckRefused-clause-line g c =
-    rw c.in-DeckRefused.is (subst (λ (t : List ℕ). GivesOrFails (g.D.Desk.shows c.args.desk.now Says) (g.D.Desk.shows c.say_texts-in-DeckRefused.new.desk Says) (codes "gatelift: 2 deck: 60 NotYet line=" ++ t ++ codes "\n"))
-    c.format.ensures.text c.say_texts-in-DeckRefused.ensures.given)
-
-pub returns-in-LibraryRefused-clause-line : goal.returns-in-LibraryRefused-clause-line
-returns-in-LibraryRefused-clause-line g c =
-    rw c.in-LibraryRefused.is (subst (λ (t : List ℕ). GivesOrFails (g.D.Desk.shows c.args.desk.now Says) (g.D.Desk.shows c.say_texts-in-LibraryRefused.new.desk Says) (codes "gatelift: 3 library: 60 NotYet line=" ++ t ++ codes "\n"))
-    c.format-in-LibraryRefused.ensures.text c.say_texts-in-LibraryRefused.ensures.given)
-
 pub returns-in-LongFile-clause-line : goal.returns-in-LongFile-clause-line
 returns-in-LongFile-clause-line g c =
     rw c.in-LongFile.is (subst (λ (t : List ℕ). GivesOrFails (g.D.Desk.shows c.args.desk.now Says) (g.D.Desk.shows c.say_texts-in-LongFile.new.desk Says) (codes "gatelift: 6 limit: LongFile slot=" ++ t ++ codes " number=67108865\n"))
