@@ -1,3 +1,5 @@
 pub mod Bodies
 pub mod Calls
+pub mod Cards
+pub mod Drafts
 pub mod Refusals

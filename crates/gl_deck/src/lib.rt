@@ -3,7 +3,10 @@
 
 mod body;
 mod deck;
+mod draft;
 mod fault;
+mod globals;
+mod refused;
 mod site;
 mod sub;
 
