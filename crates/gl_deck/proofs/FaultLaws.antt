@@ -1,10 +1,12 @@
 -- The first of several refusals.
-use Rattle.std.proofs.Common.{◌≡◌, List, [], ◌∷◌, ◌++◌, Option, Some, None, refl, sym, ap, ◌∙◌, subst}
+use Rattle.std.proofs.Common.{◌≡◌, ℕ, List, [], ◌∷◌, ◌++◌, Option, Some, None, Result, Ok, Err, refl, sym, ap, ◌∙◌, subst}
 use Rattle.std.specs.Option.{option_or}
-use Rattle.gl_text.specs.LogicalLines.{Fault}
-use Rattle.gl_text.specs.Cards.{first_some}
+use Rattle.gl_text.specs.LogicalLines.{Fault, Line}
+use Rattle.gl_text.specs.Decks.{◌>>=◌}
+use Rattle.gl_text.specs.Cards.{Card, first_some, or_else, no_card, card_of}
 use Rattle.gl_deck.specs.declared.fault.DeckFault.{DeckFault}
-use Rattle.gl_deck.specs.Refusals.{Refuses}
+use Rattle.gl_deck.specs.Refusals.{Refuses, IsRefusal, fault_of}
+use Rattle.gl_deck.specs.Drafts.{Draft, card_fault, draft_after, draft_step}
 
 or_by : (a b : Option DeckFault) (x y : Option Fault) → Refuses a x → Refuses b y → Refuses (option_or a b) (option_or x y)
 or_by None b None y p q = q
@@ -28,3 +30,33 @@ or_last xs y a b o e p q =
 pub one : (x : Option Fault) (a : Option DeckFault) → Refuses a x → Refuses a (first_some (x ∷ []))
 one None a p = p
 one (Some f) a p = p
+
+-- ---- what is refused is no value, and what is not refused is one
+
+inner : {A : Type 0} (x y : A) → Some x ≡ Some y → x ≡ y
+inner x y e = cc
+
+pub given : {V : Type 0} (f : DeckFault) (w : Option Fault) (x : V) → Refuses (Some f) w → IsRefusal (fault_of f) (or_else w x)
+given f None x p = absurd cc
+given {V} f (Some g) x p =
+    let P : Option Fault → Type 0 = λ o. IsRefusal {V = V} o (Err g) in
+    subst P (sym (inner (fault_of f) (Some g) p)) refl
+
+pub none_is : (w : Option Fault) → Refuses None w → w ≡ None
+none_is None p = refl
+none_is (Some f) p = absurd cc
+
+-- ---- a line's step
+
+pub step_refused : (d : Draft) (l : Line) (card : Card) (f : DeckFault) (o : Option DeckFault) → or_else (no_card l) (card_of l.text) ≡ Ok card → o ≡ Some f → Refuses o (card_fault d l card) → IsRefusal (fault_of f) (draft_step d l)
+step_refused d l card f o e some p =
+    let Q : Option DeckFault → Type 0 = λ g. Refuses g (card_fault d l card) in
+    let P : Result Card Fault → Type 0 = λ r. IsRefusal (fault_of f) (r >>= λ c. or_else (card_fault d l c) (draft_after d l.line c)) in
+    subst P (sym e) (given f (card_fault d l card) (draft_after d l.line card) (subst Q some p))
+
+pub step_taken : (d new : Draft) (l : Line) (line : ℕ) (card : Card) (o : Option DeckFault) → or_else (no_card l) (card_of l.text) ≡ Ok card → o ≡ None → Refuses o (card_fault d l card) → line ≡ l.line → new ≡ draft_after d line card → draft_step d l ≡ Ok new
+step_taken d new l line card o e none p at is =
+    let P : Option DeckFault → Type 0 = λ g. Refuses g (card_fault d l card) in
+    ap (λ (r : Result Card Fault). r >>= λ c. or_else (card_fault d l c) (draft_after d l.line c)) e
+    ∙ ap (λ w. or_else w (draft_after d l.line card)) (none_is (card_fault d l card) (subst P none p))
+    ∙ ap (λ n. Ok (draft_after d n card)) (sym at) ∙ ap (λ x. Ok x) (sym is)

@@ -1,3 +1,4 @@
 pub mod FaultLaws
+pub mod NodeLaws
 pub mod TableLaws
 pub mod TwiceLaws

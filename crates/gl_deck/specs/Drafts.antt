@@ -1,10 +1,10 @@
 -- A deck that is read line by line: what stands of it behind some of its cards. This project's own; the law
 -- `lines_make_the_deck` says that it leads to the deck of the definition.
-use Rattle.std.specs.Prelude.{ℕ, ◌&&◌, not, filter, Bool, List, [], ◌∷◌, ◌++◌, length, map, Option, Some, None, option_map, is_some, Result, Ok, Err, codes, if◌then◌else◌}
+use Rattle.std.specs.Prelude.{ℕ, ◌&&◌, not, filter, Bool, List, [], ◌∷◌, ◌++◌, length, map, Option, Some, None, nat_lt, option_map, is_some, Result, Ok, Err, codes, if◌then◌else◌}
 use Rattle.std.specs.Map.{lookup}
 use Rattle.indexmap.specs.IndexMap.{insert_entry}
 use Rattle.indexmap.specs.IndexSet.{insert_all}
-use Rattle.gl_text.specs.LogicalLines.{Fault, Line, nested_subckt, loose_ends, wrong_ends, open_subckt, local_card, duplicate_name, duplicate_port, zero_port, same_text, title_of}
+use Rattle.gl_text.specs.LogicalLines.{LINE, Fault, Line, long_line, nested_subckt, loose_ends, wrong_ends, open_subckt, local_card, duplicate_name, duplicate_port, zero_port, same_text, title_of}
 use Rattle.gl_text.specs.Cards.{Call, Model, Head, Card, dev, call, model, subckt, ends, global, ended, passed, first_some, when, or_else, no_card, has_parameters, has_long_tail, card_of}
 use Rattle.gl_text.specs.Decks.{Body, dev_at, call_at, Sub, Deck, Scope, top_scope, is_in, is_of_top, has_twice, ports_of, title_fault, file_lines, ◌>>=◌}
 use Rattle.gl_deck.specs.Calls.{Site, site_fault}
@@ -127,6 +127,10 @@ abbrev pub drafted_from : Draft → List (Result Line Fault) → Result Draft Fa
 drafted_from d [] = Ok d
 drafted_from d (Err f ∷ ls) = Err f
 drafted_from d (Ok l ∷ ls) = draft_step d l >>= λ e. drafted_from e ls
+
+-- a title is too long
+abbrev pub long_title : List ℕ → Option Fault
+long_title title = when (nat_lt LINE (length title)) (long_line 1 (length title))
 
 -- ---- the deck
 

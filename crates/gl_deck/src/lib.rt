@@ -2,11 +2,16 @@
 #![tactic(auto)]
 
 mod body;
+mod calls;
 mod deck;
 mod draft;
 mod fault;
+mod finish;
 mod globals;
+mod lines;
+mod read;
 mod refused;
+mod step;
 mod site;
 mod sub;
 

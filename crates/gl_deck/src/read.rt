@@ -1,0 +1,62 @@
+ghost use Rattle.std.specs.Prelude.{◌≡◌, ◌<◌, ◌≤◌, ◌^◌, length, true, false};
+ghost use Rattle.gl_text.specs.LogicalLines.{FILE};
+ghost use Rattle.gl_text.specs.Decks.{read_deck};
+ghost use Rattle.gl_deck.specs.Drafts.{deck_by_draft, long_title};
+ghost use Rattle.gl_deck.specs.Refusals.{Gives, Refuses};
+
+use crate::lines::drafted;
+use crate::{Deck, DeckFault};
+use gl_line::split_title;
+use std::alloc::Global;
+
+/// The bytes that a title may have.
+const LONGEST: usize = 131_072;
+
+/// The title is too long.
+fn title_fault(title: &[u8]) -> Option<DeckFault>
+    requires few { length title.now < 2 ^ 32 }
+    ensures too_long { Refuses result (long_title title.now) }
+{
+    let len = title.len();
+    if len > LONGEST {
+        let len = len as u32;
+        return Some(DeckFault::LongLine { line: 1, len });
+    }
+    None
+}
+
+/// The deck of a file with a title, or the first refusal.
+fn read_titled(alloc: Global, bytes: &[u8]) -> Result<Deck, DeckFault>
+    requires size { length bytes.now ≤ FILE }
+    ensures reads { Gives result (deck_by_draft true bytes.now) }
+{
+    let (title, rest) = split_title(bytes);
+    if let Some(fault) = title_fault(title) {
+        return Err(fault);
+    }
+    let draft = drafted(alloc, rest, 2)?;
+    draft.finish(alloc, Vec::from_slice(alloc, title)?)
+}
+
+/// The deck of a file without a title, or the first refusal.
+fn read_untitled(alloc: Global, bytes: &[u8]) -> Result<Deck, DeckFault>
+    requires size { length bytes.now ≤ FILE }
+    ensures reads { Gives result (deck_by_draft false bytes.now) }
+{
+    let draft = drafted(alloc, bytes, 1)?;
+    draft.finish(alloc, Vec::new(alloc))
+}
+
+impl Deck {
+    /// The deck of a file, or the first of its refusals. With a title the first line is no card.
+    pub fn read(alloc: Global, bytes: &[u8], has_title: bool) -> Result<Deck, DeckFault>
+        requires size { length bytes.now ≤ FILE }
+        ensures read { Gives result (read_deck has_title bytes.now) }
+    {
+        if has_title {
+            read_titled(alloc, bytes)
+        } else {
+            read_untitled(alloc, bytes)
+        }
+    }
+}
