@@ -46,6 +46,16 @@ pub none_is : (w : Option Fault) → Refuses None w → w ≡ None
 none_is None p = refl
 none_is (Some f) p = absurd cc
 
+pub refused_is : {V : Type 0} (f : DeckFault) (o : Option DeckFault) (w : Option Fault) (x : V) → o ≡ Some f → Refuses o w → IsRefusal (fault_of f) (or_else w x)
+refused_is f o w x e p =
+    let P : Option DeckFault → Type 0 = λ g. Refuses g w in
+    given f w x (subst P e p)
+
+pub passed_is : {V : Type 0} (o : Option DeckFault) (w : Option Fault) (x y : V) → o ≡ None → Refuses o w → y ≡ x → or_else w x ≡ Ok y
+passed_is o w x y e p same =
+    let P : Option DeckFault → Type 0 = λ g. Refuses g w in
+    ap (λ v. or_else v x) (none_is w (subst P e p)) ∙ ap (λ z. Ok z) (sym same)
+
 -- ---- a line's step
 
 pub step_refused : (d : Draft) (l : Line) (card : Card) (f : DeckFault) (o : Option DeckFault) → or_else (no_card l) (card_of l.text) ≡ Ok card → o ≡ Some f → Refuses o (card_fault d l card) → IsRefusal (fault_of f) (draft_step d l)

@@ -1,4 +1,5 @@
 pub mod FaultLaws
 pub mod NodeLaws
+pub mod ReadLaws
 pub mod TableLaws
 pub mod TwiceLaws
