@@ -158,6 +158,10 @@ finished title d = or_else (first_some (open_in d ∷ calls_in d ∷ [])) (deck_
 abbrev pub title_in : Bool → List ℕ → List ℕ
 title_in has_title bytes = if has_title then title_of bytes else []
 
+-- the deck of lines behind a title, or the first refusal
+abbrev pub deck_behind : List ℕ → List (Result Line Fault) → Result Deck Fault
+deck_behind title lines = drafted_from empty_draft lines >>= λ d. finished title d
+
 -- the deck of a file, or the first refusal
 abbrev pub deck_by_draft : Bool → List ℕ → Result Deck Fault
-deck_by_draft has_title bytes = or_else (title_fault has_title bytes) empty_draft >>= λ d. drafted_from d (file_lines has_title bytes) >>= λ e. finished (title_in has_title bytes) e
+deck_by_draft has_title bytes = or_else (title_fault has_title bytes) (title_in has_title bytes) >>= λ title. deck_behind title (file_lines has_title bytes)

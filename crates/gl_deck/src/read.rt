@@ -1,7 +1,7 @@
 ghost use Rattle.std.specs.Prelude.{◌≡◌, ◌<◌, ◌≤◌, ◌^◌, length, true, false};
-ghost use Rattle.gl_text.specs.LogicalLines.{FILE};
+ghost use Rattle.gl_text.specs.LogicalLines.{FILE, logical_lines};
 ghost use Rattle.gl_text.specs.Decks.{read_deck};
-ghost use Rattle.gl_deck.specs.Drafts.{deck_by_draft, long_title};
+ghost use Rattle.gl_deck.specs.Drafts.{deck_behind, deck_by_draft, long_title};
 ghost use Rattle.gl_deck.specs.Refusals.{Gives, Refuses};
 
 use crate::lines::drafted;
@@ -25,6 +25,22 @@ fn title_fault(title: &[u8]) -> Option<DeckFault>
     None
 }
 
+/// The deck of bytes behind a title, or the first refusal.
+fn read_lines(
+    alloc: Global,
+    title: &[u8],
+    bytes: &[u8],
+    first_line: u32,
+) -> Result<Deck, DeckFault>
+    requires size { length bytes.now ≤ FILE }
+    requires numbered { (1 ≤ first_line) × (first_line ≤ 2) }
+    ensures reads { Gives result (deck_behind title.now (logical_lines first_line bytes.now)) }
+{
+    let title = Vec::from_slice(alloc, title)?;
+    let draft = drafted(alloc, bytes, first_line)?;
+    draft.finish(alloc, title)
+}
+
 /// The deck of a file with a title, or the first refusal.
 fn read_titled(alloc: Global, bytes: &[u8]) -> Result<Deck, DeckFault>
     requires size { length bytes.now ≤ FILE }
@@ -34,8 +50,7 @@ fn read_titled(alloc: Global, bytes: &[u8]) -> Result<Deck, DeckFault>
     if let Some(fault) = title_fault(title) {
         return Err(fault);
     }
-    let draft = drafted(alloc, rest, 2)?;
-    draft.finish(alloc, Vec::from_slice(alloc, title)?)
+    read_lines(alloc, title, rest, 2)
 }
 
 /// The deck of a file without a title, or the first refusal.
@@ -43,8 +58,7 @@ fn read_untitled(alloc: Global, bytes: &[u8]) -> Result<Deck, DeckFault>
     requires size { length bytes.now ≤ FILE }
     ensures reads { Gives result (deck_by_draft false bytes.now) }
 {
-    let draft = drafted(alloc, bytes, 1)?;
-    draft.finish(alloc, Vec::new(alloc))
+    read_lines(alloc, b"", bytes, 1)
 }
 
 impl Deck {
