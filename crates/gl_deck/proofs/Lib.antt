@@ -1,7 +1,10 @@
+pub mod Ascent
+pub mod CardSteps
 pub mod FaultLaws
 pub mod LoopLaws
 pub mod NodeLaws
 pub mod ReadLaws
+pub mod SubSteps
 pub mod TableLaws
 pub mod TitleLaws
 pub mod TwiceLaws

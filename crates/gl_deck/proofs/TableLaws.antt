@@ -16,7 +16,7 @@ itself = nat_list_eq_equiv.refl
 
 -- ---- a subcircuit stands under its name
 
-keyed : (subs : List (List ℕ × Sub)) (s : Sub) → keys_of subs ≡ names_of (values_of subs) → keys_of (insert_entry same_text subs s.head.name s) ≡ names_of (values_of (insert_entry same_text subs s.head.name s))
+pub keyed : (subs : List (List ℕ × Sub)) (s : Sub) → keys_of subs ≡ names_of (values_of subs) → keys_of (insert_entry same_text subs s.head.name s) ≡ names_of (values_of (insert_entry same_text subs s.head.name s))
 keyed [] s h = refl
 keyed (e ∷ es) s h = by (same_text s.head.name e.0) refl (keyed es s) where
   by : (b : Bool) → same_text s.head.name e.0 ≡ b

@@ -63,15 +63,19 @@ with_globals d names = record d { globals = insert_all same_text d.globals names
 abbrev pub with_passed : Draft → List ℕ → Draft
 with_passed d text = record d { passed = d.passed ++ text ∷ [] }
 
+-- where this subcircuit is open
+abbrev pub with_card : Option Sub → Draft → ℕ → Card → Draft
+with_card current d line (dev c) = with_body current d c.name line (dev_at line c)
+with_card current d line (call c) = with_site (with_body current d c.name line (call_at line c)) (site_of current line c)
+with_card current d line (model m) = with_model d line m
+with_card current d line (subckt h) = opened d line h
+with_card current d line (ends name) = closed current d
+with_card current d line (global names) = with_globals d names
+with_card current d line ended = d
+with_card current d line (passed text) = with_passed d text
+
 abbrev pub draft_after : Draft → ℕ → Card → Draft
-draft_after d line (dev c) = with_body d.current d c.name line (dev_at line c)
-draft_after d line (call c) = with_site (with_body d.current d c.name line (call_at line c)) (site_of d.current line c)
-draft_after d line (model m) = with_model d line m
-draft_after d line (subckt h) = opened d line h
-draft_after d line (ends name) = closed d.current d
-draft_after d line (global names) = with_globals d names
-draft_after d line ended = d
-draft_after d line (passed text) = with_passed d text
+draft_after d line card = with_card d.current d line card
 
 -- ---- what refuses a card behind a draft
 
@@ -94,13 +98,16 @@ abbrev pub names_at : Option Sub → Draft → List (List ℕ × ℕ)
 names_at None d = d.top_names
 names_at (Some s) d = d.inner_names
 
--- the line of the card that has this card's name already
+-- the line of the card that has this card's name already, where this subcircuit is open
+abbrev pub known_at : Option Sub → Draft → Card → Option ℕ
+known_at current d (dev c) = lookup (same_text c.name) (names_at current d)
+known_at current d (call c) = lookup (same_text c.name) (names_at current d)
+known_at current d (model m) = lookup (same_text m.name) d.model_names
+known_at current d (subckt h) = option_map (λ (s : Sub). s.line) (lookup (same_text h.name) d.subs)
+known_at current d _ = None
+
 abbrev pub known_line : Draft → Card → Option ℕ
-known_line d (dev c) = lookup (same_text c.name) (names_at d.current d)
-known_line d (call c) = lookup (same_text c.name) (names_at d.current d)
-known_line d (model m) = lookup (same_text m.name) d.model_names
-known_line d (subckt h) = option_map (λ (s : Sub). s.line) (lookup (same_text h.name) d.subs)
-known_line d _ = None
+known_line d card = known_at d.current d card
 
 abbrev pub duplicate_in : Draft → ℕ → Card → Option Fault
 duplicate_in d line card = option_map (λ first. duplicate_name line first) (known_line d card)
