@@ -1,6 +1,8 @@
 pub mod Ascent
 pub mod CardSteps
 pub mod FaultLaws
+pub mod FaultSteps
+pub mod GlobalLaws
 pub mod LoopLaws
 pub mod NodeLaws
 pub mod ReadLaws

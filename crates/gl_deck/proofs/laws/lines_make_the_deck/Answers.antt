@@ -1,7 +1,6 @@
-use Rattle.gl_deck.proofs.Ascent.{file_rises}
-use Rattle.gl_deck.proofs.CardSteps.{here_step}
-use Rattle.gl_deck.proofs.SubSteps.{subs_step}
+use Rattle.gl_deck.proofs.GlobalLaws.{keys_once}
+use Rattle.gl_deck.proofs.FaultSteps.{faults_same, nothing_known}
 use Rattle.gl_deck.proofs.laws.lines_make_the_deck.Goals as goal
 
 pub returns : goal.returns
-returns c = let a = file_rises in let b = here_step in let d = subs_step in ?
+returns c = let a = faults_same in let b = nothing_known in let d = keys_once in ?
