@@ -10,3 +10,4 @@ pub mod SubSteps
 pub mod TableLaws
 pub mod TitleLaws
 pub mod TwiceLaws
+pub mod Whole
