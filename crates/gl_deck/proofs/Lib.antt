@@ -7,7 +7,7 @@ pub mod LoopLaws
 pub mod NodeLaws
 pub mod ReadLaws
 pub mod SubSteps
-pub mod TableLaws
+pub mod DraftTables
 pub mod TitleLaws
 pub mod TwiceLaws
 pub mod Whole

@@ -10,7 +10,7 @@ use Rattle.gl_text.specs.Cards.{Head, Card, dev, call, model, subckt, ends, glob
 use Rattle.gl_text.specs.Decks.{Body, dev_at, call_at, Sub, Scope, Placed, body_of, bodies, sub_of}
 use Rattle.gl_deck.specs.Bodies.{names_of}
 use Rattle.gl_deck.specs.Drafts.{Draft, scope_of, with_card, known_at, nested_in, values_of}
-use Rattle.gl_deck.proofs.TableLaws.{keyed}
+use Rattle.gl_deck.proofs.DraftTables.{keyed}
 use Rattle.gl_deck.proofs.CardSteps.{placed, push, none_more, apart, apart_back, same_number, IsNumbered, absent, current_after, body_in, no_bodies}
 
 -- the line and the head of a `.subckt`

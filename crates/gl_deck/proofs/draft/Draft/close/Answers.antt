@@ -1,5 +1,5 @@
 use Rattle.std.proofs.Common.{◌∙◌, ap}
-use Rattle.gl_deck.proofs.TableLaws.{keyed_after}
+use Rattle.gl_deck.proofs.DraftTables.{keyed_after}
 use Rattle.gl_deck.proofs.draft.Draft.close.Goals as goal
 
 pub invariant_of-self-in_ok-insert : goal.invariant_of-self-in_ok-insert
