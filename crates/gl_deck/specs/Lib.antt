@@ -1,3 +1,5 @@
 pub mod Bodies
 pub mod Calls
+pub mod Levels
 pub mod Refusals
+pub mod Walks

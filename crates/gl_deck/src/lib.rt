@@ -2,8 +2,11 @@
 #![tactic(auto)]
 
 mod body;
+mod calls;
 mod deck;
 mod fault;
+mod levels;
+mod reach;
 mod site;
 mod sub;
 

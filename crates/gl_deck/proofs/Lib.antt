@@ -1,0 +1,5 @@
+pub mod CallLaws
+pub mod LevelLaws
+pub mod Members
+pub mod ReachLaws
+pub mod WalkLaws
