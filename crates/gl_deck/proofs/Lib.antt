@@ -3,3 +3,4 @@ pub mod LevelLaws
 pub mod Members
 pub mod ReachLaws
 pub mod WalkLaws
+pub mod TableLaws

@@ -9,6 +9,8 @@ mod levels;
 mod reach;
 mod site;
 mod sub;
+#[cfg(test)]
+mod tests_calls;
 
 pub use body::Body;
 pub use deck::Deck;
