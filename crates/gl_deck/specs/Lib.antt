@@ -2,4 +2,6 @@ pub mod Bodies
 pub mod Calls
 pub mod Cards
 pub mod Drafts
+pub mod Levels
 pub mod Refusals
+pub mod Walks

@@ -3,7 +3,7 @@ ghost use Rattle.indexmap.specs.IndexMap.{keys, values};
 ghost use Rattle.gl_text.specs.Decks.{dev_at, call_at};
 ghost use Rattle.gl_card.specs.Reading.{card_value};
 ghost use Rattle.gl_deck.specs.Bodies.{bodies_value, body_value, names_of};
-ghost use Rattle.gl_deck.specs.Cards.{FewNodes};
+ghost use Rattle.gl_deck.specs.Cards.{IsCountable};
 ghost use Rattle.gl_deck.specs.Drafts.{empty_draft, names_at, with_body, with_site, with_model, opened, closed, with_globals, with_passed, draft_after, scope_of, site_of};
 
 use crate::globals::add_names;
@@ -41,14 +41,15 @@ pub struct Draft {
 impl Model for Draft {
     ghost use Rattle.std.specs.Prelude.{◌≡◌, map};
     ghost use Rattle.indexmap.specs.IndexMap.{keys, values};
-    ghost use Rattle.gl_deck.specs.Bodies.{bodies_value, names_of};
+    ghost use Rattle.gl_deck.specs.Bodies.{bodies_value};
+    ghost use Rattle.gl_deck.specs.Cards.{AreSubs};
     ghost use Rattle.gl_deck.specs.Drafts.{Draft as DraftValue};
 
     ghost Value = { DraftValue };
 
     ghost view = { λ d. record { current = d.current; top_names = d.top_names.entries; inner_names = d.inner_names.entries; model_names = d.model_names.entries; globals = d.globals.keys; models = d.models.items; subs = d.subs.entries; top = bodies_value d.top.items; passed = map (λ t. t.items) d.passed.items; sites = d.sites.items } };
 
-    ghost invariant = { λ d. keys d.subs ≡ names_of (values d.subs) };
+    ghost invariant = { λ d. AreSubs (keys d.subs) (values d.subs) d.current };
 }
 
 impl Draft {
@@ -99,6 +100,7 @@ impl Draft {
 
     /// Opens a subcircuit.
     fn open(&mut self, alloc: Global, line: u32, head: Head)
+        requires few { length head.ports < 2 ^ 32 }
         ensures opened { self.new ≡ opened self.old line head }
     {
         self.current = Some(Sub {
@@ -185,7 +187,7 @@ impl Draft {
 
     /// Adds the card of a line that is not refused.
     pub fn add(&mut self, alloc: Global, line: u32, card: Card) -> Result<(), Memory>
-        requires few { FewNodes (card_value card) }
+        requires few { IsCountable (card_value card) }
         ensures added { OnOk result (self.new ≡ draft_after self.old line (card_value card)) }
     {
         match card {

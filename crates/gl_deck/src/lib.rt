@@ -9,12 +9,16 @@ mod fault;
 mod finish;
 mod globals;
 mod laws;
+mod levels;
 mod lines;
+mod reach;
 mod read;
 mod refused;
-mod step;
 mod site;
+mod step;
 mod sub;
+#[cfg(test)]
+mod tests_calls;
 
 pub use body::Body;
 pub use deck::Deck;

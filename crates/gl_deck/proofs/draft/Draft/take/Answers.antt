@@ -2,7 +2,7 @@ use Rattle.gl_text.specs.Cards.{no_card, card_of}
 use Rattle.gl_card.specs.Reading.{card_value}
 use Rattle.gl_card.proofs.ReadLaws.{card_kept}
 use Rattle.gl_deck.proofs.FaultLaws.{step_refused, step_taken}
-use Rattle.gl_deck.proofs.NodeLaws.{few_nodes}
+use Rattle.gl_deck.proofs.NodeLaws.{countable}
 use Rattle.gl_deck.proofs.draft.Draft.take.Goals as goal
 
 pub refused-requires-clause-of_line : goal.refused-requires-clause-of_line
@@ -14,7 +14,7 @@ returns-in-Some-clause-refused c = step_refused c.args.self.now c.args.line.now 
 pub add-requires : goal.add-requires
 add-requires c =
     let l = c.args.line.now in
-    record { few = few_nodes l.text (card_value c.in_ok-card.card) c.requires.size (card_kept (no_card l) (card_of l.text) (card_value c.in_ok-card.card) c.in_ok-card.ensures.card) }
+    record { few = countable l.text (card_value c.in_ok-card.card) c.requires.size (card_kept (no_card l) (card_of l.text) (card_value c.in_ok-card.card) c.in_ok-card.ensures.card) }
 
 pub returns-clause-taken : goal.returns-clause-taken
 returns-clause-taken c =
