@@ -136,10 +136,7 @@ impl Draft {
     {
         match &self.current {
             None => Ok((0, Name::of(alloc, b"")?)),
-            Some(sub) => Ok((
-                sub.line(),
-                Name::of(alloc, sub.head().name().as_bytes())?,
-            )),
+            Some(sub) => Ok((sub.line(), Name::of(alloc, sub.head().name().as_bytes())?)),
         }
     }
 

@@ -18,6 +18,8 @@ mod site;
 mod step;
 mod sub;
 #[cfg(test)]
+mod tests;
+#[cfg(test)]
 mod tests_calls;
 
 pub use body::Body;

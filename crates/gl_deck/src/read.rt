@@ -26,12 +26,7 @@ fn title_fault(title: &[u8]) -> Option<DeckFault>
 }
 
 /// The deck of bytes behind a title, or the first refusal.
-fn read_lines(
-    alloc: Global,
-    title: &[u8],
-    bytes: &[u8],
-    first_line: u32,
-) -> Result<Deck, DeckFault>
+fn read_lines(alloc: Global, title: &[u8], bytes: &[u8], first_line: u32) -> Result<Deck, DeckFault>
     requires size { length bytes.now ≤ FILE }
     requires numbered { (1 ≤ first_line) × (first_line ≤ 2) }
     ensures reads { Gives result (deck_behind title.now (logical_lines first_line bytes.now)) }

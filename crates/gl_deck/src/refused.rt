@@ -179,14 +179,15 @@ impl Draft {
     {
         let at = line.line();
         let twice = port_twice(alloc, at, card)?;
-        Ok(self
-            .nested(at, card)
-            .or(self.bad_ends(at, card))
-            .or(self.local(at, card))
-            .or(parameters(line, card))
-            .or(self.duplicate(at, card))
-            .or(twice)
-            .or(port_zero(at, card))
-            .or(long_tail(line, card)))
+        Ok(
+            self.nested(at, card)
+                .or(self.bad_ends(at, card))
+                .or(self.local(at, card))
+                .or(parameters(line, card))
+                .or(self.duplicate(at, card))
+                .or(twice)
+                .or(port_zero(at, card))
+                .or(long_tail(line, card)),
+        )
     }
 }

@@ -23,7 +23,7 @@ returns-in_err-line c =
     let f = c.in_err-line.field-0.0 in
     record {
       drafted = line_refused c.from_residual.result f c.loop-line.draft (lines_left c.loop-line.line-iterator) (lines_left c.next.new.self) (drafted_from empty_draft (logical_lines c.args.first_line c.args.bytes.now))
-      (subst P c.in_err-line.was c.in-Some.ensures.steps) c.from_residual.ensures.1 c.loop-line.invariant.same;
+          (subst P c.in_err-line.was c.in-Some.ensures.steps) c.from_residual.ensures.1 c.loop-line.invariant.same;
     }
 
 pub returns-in_err-take : goal.returns-in_err-take
@@ -31,5 +31,5 @@ returns-in_err-take c =
     let P : Result Line LineFault → Type 0 = λ r. line.Gives r (lines_left c.loop-line.line-iterator) (lines_left c.next.new.self) in
     record {
       drafted = line_stopped c.from_residual-in_err-take.result c.in_err-take.field-0.0 c.loop-line.draft c.in_ok-line.field-0 (lines_left c.loop-line.line-iterator) (lines_left c.next.new.self)
-      (drafted_from empty_draft (logical_lines c.args.first_line c.args.bytes.now)) (subst P c.in_ok-line.was c.in-Some.ensures.steps) c.from_residual-in_err-take.ensures.1 c.in_err-take.ensures.refused c.loop-line.invariant.same;
+          (drafted_from empty_draft (logical_lines c.args.first_line c.args.bytes.now)) (subst P c.in_ok-line.was c.in-Some.ensures.steps) c.from_residual-in_err-take.ensures.1 c.in_err-take.ensures.refused c.loop-line.invariant.same;
     }
