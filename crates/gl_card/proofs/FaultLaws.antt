@@ -31,3 +31,9 @@ or_four a b c d x y z w p q r s =
     let e : option_or a (option_or b (option_or c d)) ≡ option_or (option_or (option_or a b) c) d = sym (or_assoc (option_or a b) c d ∙ or_assoc a b (option_or c d)) in
     let P : Option CardFault → Type 0 = λ o. Refuses o (first_some (x ∷ y ∷ z ∷ w ∷ [])) in
     subst P e (or_more a (option_or b (option_or c d)) x (y ∷ z ∷ w ∷ []) p (or_more b (option_or c d) y (z ∷ w ∷ []) q (or_more c d z (w ∷ []) r (last_one d w s))))
+
+-- the first of two
+pub or_two : (a b o : Option CardFault) (x y : Option Fault) → o ≡ option_or a b → Refuses a x → Refuses b y → Refuses o (first_some (x ∷ y ∷ []))
+or_two a b o x y e p q =
+    let P : Option CardFault → Type 0 = λ o. Refuses o (first_some (x ∷ y ∷ [])) in
+    subst P (sym e) (or_more a b x (y ∷ []) p (last_one b y q))

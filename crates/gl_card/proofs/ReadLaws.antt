@@ -59,12 +59,18 @@ pieces_few (b ∷ bs) = by (is_separator b) (pieces_few bs) where
   by false h = let g = onto_more b (pieces_of bs) (length bs) h in omega arith
 
 -- a text has at most one field more than bytes
+pub text_fields_few : (text : List ℕ) → length (fields_of text) ≤ length text + 1
+text_fields_few text =
+    let b = filter_few (pieces_of text) in
+    let c = pieces_few text in
+    omega arith
+
+-- and so have the fields that were found
 pub fields_few : (text : List ℕ) (fields : List Field) → AreFields text fields → length fields ≤ length text + 1
 fields_few text fields h =
     let same : length (map (piece_of text) fields) ≡ length (fields_of text) = ap length h in
     let a = length-map fields (piece_of text) in
-    let b = filter_few (pieces_of text) in
-    let c = pieces_few text in
+    let b = text_fields_few text in
     omega arith
 
 -- ---- a refusal is given, or there is none

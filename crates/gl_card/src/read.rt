@@ -66,6 +66,31 @@ impl Card {
         card_in(alloc, line, &fields)
     }
 
+    /// Why the card of this line is refused for an equal sign on an X or `.subckt` card. It takes no memory.
+    pub fn parameter_fault(&self, line: &Logical<'_>) -> Option<CardFault>
+        requires of_line { card_value self.now ≡ card_of line.now.text }
+        ensures equal_sign { Refuses result (has_parameters line.now) }
+    {
+        match self {
+            Card::Call(_) => parameters(line.line(), line.text()),
+            Card::Subckt(_) => parameters(line.line(), line.text()),
+            _ => None,
+        }
+    }
+
+    /// Why the card of this line is refused for its tail. It takes no memory.
+    pub fn tail_fault(&self, line: &Logical<'_>) -> Option<CardFault>
+        requires of_line { card_value self.now ≡ card_of line.now.text }
+        requires size { length line.now.text ≤ LINE }
+        ensures too_long { Refuses result (has_long_tail line.now) }
+    {
+        match self {
+            Card::Dev(card) => long_tail(line.line(), card.tail()),
+            Card::Model(card) => long_tail(line.line(), card.tail()),
+            _ => None,
+        }
+    }
+
     /// Why the card of this line is refused although there is one: an equal sign on an X or `.subckt` card, or a tail
     /// that is too long. It takes no memory.
     pub fn late_fault(&self, line: &Logical<'_>) -> Option<CardFault>
@@ -73,13 +98,7 @@ impl Card {
         requires size { length line.now.text ≤ LINE }
         ensures late { Refuses result (first_some (has_parameters line.now ∷ has_long_tail line.now ∷ [])) }
     {
-        match self {
-            Card::Dev(card) => long_tail(line.line(), card.tail()),
-            Card::Model(card) => long_tail(line.line(), card.tail()),
-            Card::Call(_) => parameters(line.line(), line.text()),
-            Card::Subckt(_) => parameters(line.line(), line.text()),
-            _ => None,
-        }
+        self.parameter_fault(line).or(self.tail_fault(line))
     }
 
     /// The card of a logical line, or the first of its refusals in the order of `CardFault`.

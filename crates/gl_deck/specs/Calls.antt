@@ -1,5 +1,5 @@
 -- X cards as far as their calls go, and what refuses them.
-use Rattle.std.specs.Prelude.{ℕ, ◌==◌, ◌&&◌, not, List, [], ◌∷◌, length, Option, Some, None}
+use Rattle.std.specs.Prelude.{ℕ, ◌<◌, ◌^◌, ◌==◌, ◌&&◌, not, List, [], ◌∷◌, length, Option, Some, None, All}
 use Rattle.gl_text.specs.LogicalLines.{Fault, unknown_subckt, wrong_node_count, recursive}
 use Rattle.gl_text.specs.Cards.{first_some, when}
 use Rattle.gl_text.specs.Decks.{Scope, Sub, is_inside, find_sub, reaches}
@@ -20,3 +20,7 @@ known_fault subs s (Some t) = first_some (when (not (s.nodes == length t.head.po
 -- the lowest refusal of an X card by its call
 abbrev pub site_fault : List Sub → Site → Option Fault
 site_fault subs s = known_fault subs s (find_sub subs s.sub)
+
+-- each subcircuit has as many ports as a count holds
+abbrev pub PortsFit : List Sub → Type 0
+PortsFit subs = All (λ (s : Sub). length s.head.ports < 2 ^ 32) subs

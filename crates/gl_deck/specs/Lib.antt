@@ -1,3 +1,7 @@
 pub mod Bodies
 pub mod Calls
+pub mod Cards
+pub mod Drafts
+pub mod Levels
 pub mod Refusals
+pub mod Walks

@@ -2,6 +2,8 @@
 use Rattle.std.specs.Prelude.{◌≡◌, Option, Some, None, option_map, Result, Ok, Err, ⊤}
 use Rattle.gl_text.specs.LogicalLines as lines
 use Rattle.gl_text.specs.LogicalLines.{Fault}
+use Rattle.gl_line.specs.declared.fault.LineFault.{LineFault}
+use Rattle.gl_line.specs.declared.fault.LineFault.TheVariants as line_faults
 use Rattle.gl_deck.specs.declared.fault.DeckFault.{DeckFault}
 use Rattle.gl_deck.specs.declared.fault.DeckFault.TheVariants as faults
 
@@ -27,6 +29,12 @@ fault_of (faults.UnknownSubckt line) = Some (lines.unknown_subckt line)
 fault_of (faults.WrongNodeCount line has needs) = Some (lines.wrong_node_count line has needs)
 fault_of (faults.Recursive line) = Some (lines.recursive line)
 fault_of faults.Memory = None
+
+-- the same of a line's refusal
+abbrev pub line_fault_of : LineFault → Option Fault
+line_fault_of (line_faults.LoosePlus line) = Some (lines.loose_plus line)
+line_fault_of (line_faults.LongLine line len) = Some (lines.long_line line len)
+line_fault_of line_faults.Memory = None
 
 -- there is a refusal exactly where one is wanted, and it is that one
 abbrev pub Refuses : Option DeckFault → Option Fault → Type 0

@@ -1,6 +1,10 @@
 ghost use Rattle.std.specs.Prelude.{◌≡◌};
+ghost use Rattle.gl_card.specs.Reading as card;
+ghost use Rattle.gl_deck.specs.Refusals.{fault_of, line_fault_of};
 ghost use Rattle.gl_deck.specs.declared.fault.DeckFault.TheVariants.{Memory as NoMemory};
 
+use gl_card::{CardFault, Memory};
+use gl_line::LineFault;
 use std::alloc::{AllocError, AllocFailed};
 use thiserror::Error;
 
@@ -158,5 +162,41 @@ impl<T: Drop> From<AllocFailed<T>> for DeckFault {
 
     fn from(_: AllocFailed<T>) -> Self {
         DeckFault::Memory
+    }
+}
+
+impl From<Memory> for DeckFault {
+    ghost from_gives = { λ _ e. e ≡ NoMemory };
+
+    fn from(_: Memory) -> Self {
+        DeckFault::Memory
+    }
+}
+
+impl From<CardFault> for DeckFault {
+    ghost from_gives = { λ c e. fault_of e ≡ card.fault_of c };
+
+    fn from(fault: CardFault) -> Self {
+        match fault {
+            CardFault::LongName { line, len } => DeckFault::LongName { line, len },
+            CardFault::UnknownCard { line, byte } => DeckFault::UnknownCard { line, byte },
+            CardFault::ShortCard { line, has, needs } => DeckFault::ShortCard { line, has, needs },
+            CardFault::ControlBlock { line } => DeckFault::ControlBlock { line },
+            CardFault::Parameters { line } => DeckFault::Parameters { line },
+            CardFault::LongTail { line, len } => DeckFault::LongTail { line, len },
+            CardFault::Memory => DeckFault::Memory,
+        }
+    }
+}
+
+impl From<LineFault> for DeckFault {
+    ghost from_gives = { λ l e. fault_of e ≡ line_fault_of l };
+
+    fn from(fault: LineFault) -> Self {
+        match fault {
+            LineFault::LoosePlus { line } => DeckFault::LoosePlus { line },
+            LineFault::LongLine { line, len } => DeckFault::LongLine { line, len },
+            LineFault::Memory => DeckFault::Memory,
+        }
     }
 }

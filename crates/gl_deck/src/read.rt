@@ -1,20 +1,71 @@
-ghost use Rattle.std.specs.Prelude.{◌≤◌, length};
-ghost use Rattle.gl_text.specs.LogicalLines.{FILE};
+ghost use Rattle.std.specs.Prelude.{◌≡◌, ◌<◌, ◌≤◌, ◌^◌, length, true, false};
+ghost use Rattle.gl_text.specs.LogicalLines.{FILE, logical_lines};
 ghost use Rattle.gl_text.specs.Decks.{read_deck};
-ghost use Rattle.gl_deck.specs.Refusals.{Gives};
+ghost use Rattle.gl_deck.specs.Drafts.{deck_behind, deck_by_draft, long_title};
+ghost use Rattle.gl_deck.specs.Refusals.{Gives, Refuses};
 
+use crate::lines::drafted;
 use crate::{Deck, DeckFault};
+use gl_line::split_title;
 use std::alloc::Global;
 
+/// The bytes that a title may have.
+const LONGEST: usize = 131_072;
+
+/// The title is too long.
+fn title_fault(title: &[u8]) -> Option<DeckFault>
+    requires few { length title.now < 2 ^ 32 }
+    ensures too_long { Refuses result (long_title title.now) }
+{
+    let len = title.len();
+    if len > LONGEST {
+        let len = len as u32;
+        return Some(DeckFault::LongLine { line: 1, len });
+    }
+    None
+}
+
+/// The deck of bytes behind a title, or the first refusal.
+fn read_lines(alloc: Global, title: &[u8], bytes: &[u8], first_line: u32) -> Result<Deck, DeckFault>
+    requires size { length bytes.now ≤ FILE }
+    requires numbered { (1 ≤ first_line) × (first_line ≤ 2) }
+    ensures reads { Gives result (deck_behind title.now (logical_lines first_line bytes.now)) }
+{
+    let title = Vec::from_slice(alloc, title)?;
+    let draft = drafted(alloc, bytes, first_line)?;
+    draft.finish(alloc, title)
+}
+
+/// The deck of a file with a title, or the first refusal.
+fn read_titled(alloc: Global, bytes: &[u8]) -> Result<Deck, DeckFault>
+    requires size { length bytes.now ≤ FILE }
+    ensures reads { Gives result (deck_by_draft true bytes.now) }
+{
+    let (title, rest) = split_title(bytes);
+    if let Some(fault) = title_fault(title) {
+        return Err(fault);
+    }
+    read_lines(alloc, title, rest, 2)
+}
+
+/// The deck of a file without a title, or the first refusal.
+fn read_untitled(alloc: Global, bytes: &[u8]) -> Result<Deck, DeckFault>
+    requires size { length bytes.now ≤ FILE }
+    ensures reads { Gives result (deck_by_draft false bytes.now) }
+{
+    read_lines(alloc, b"", bytes, 1)
+}
+
 impl Deck {
-    /// Stub.
+    /// The deck of a file, or the first of its refusals. With a title the first line is no card.
     pub fn read(alloc: Global, bytes: &[u8], has_title: bool) -> Result<Deck, DeckFault>
         requires size { length bytes.now ≤ FILE }
         ensures read { Gives result (read_deck has_title bytes.now) }
     {
-        let _ = alloc;
-        let _ = bytes;
-        let _ = has_title;
-        Err(DeckFault::Memory)
+        if has_title {
+            read_titled(alloc, bytes)
+        } else {
+            read_untitled(alloc, bytes)
+        }
     }
 }

@@ -1,3 +1,6 @@
+ghost use Rattle.std.specs.Prelude.{◌≡◌};
+ghost use Rattle.gl_text.specs.Decks as decks;
+
 use crate::Name;
 use std::marker::Model;
 
@@ -23,4 +26,41 @@ impl Model for Site {
     ghost Value = { SiteValue };
 
     ghost view = { λ s. record { line = s.line; scope = record { line = s.scope_line; name = s.scope_name }; sub = s.sub; nodes = s.nodes } };
+}
+
+impl Site {
+    /// The number of its line.
+    pub fn line(&self) -> u32
+        ensures line { result ≡ self.now.line }
+    {
+        self.line
+    }
+
+    /// It stands in a subcircuit.
+    pub fn is_inside(&self) -> bool
+        ensures inside { result ≡ decks.is_inside self.now.scope }
+    {
+        self.scope_line > 0
+    }
+
+    /// The name of the subcircuit that it stands in; empty at the top.
+    pub fn scope_name(&self) -> &Name
+        ensures scope { result.now ≡ self.now.scope.name }
+    {
+        &self.scope_name
+    }
+
+    /// The name of the subcircuit that it calls.
+    pub fn sub(&self) -> &Name
+        ensures sub { result.now ≡ self.now.sub }
+    {
+        &self.sub
+    }
+
+    /// How many nodes it has.
+    pub fn nodes(&self) -> u32
+        ensures nodes { result ≡ self.now.nodes }
+    {
+        self.nodes
+    }
 }

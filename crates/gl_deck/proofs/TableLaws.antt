@@ -1,0 +1,34 @@
+-- A subcircuit that is added to a table.
+use Rattle.std.proofs.Common.{◌≡◌, ◌<◌, ◌^◌, ℕ, List, [], ◌∷◌, length, cond, Bool, true, false, All, refl, sym, ap, ◌∙◌}
+use Rattle.std.proofs.lemmas.List.Elements.{All-cons, All-nil, All-head, All-tail}
+use Rattle.std.specs.Map.{keys_of, values_of}
+use Rattle.indexmap.specs.IndexMap.{insert_entry}
+use Rattle.gl_text.specs.LogicalLines.{same_text}
+use Rattle.gl_text.specs.Decks.{Sub}
+use Rattle.gl_deck.specs.Bodies.{names_of}
+use Rattle.gl_deck.proofs.CallLaws.{exact}
+
+abbrev Keyed : List (List ℕ × Sub) → Type 0
+Keyed es = keys_of es ≡ names_of (values_of es)
+
+keyed_by : (b : Bool) (k n : List ℕ) (s v : Sub) (es new : List (List ℕ × Sub)) → same_text k n ≡ b → k ≡ v.head.name → n ≡ s.head.name → Keyed es → Keyed new → Keyed (cond b ((n, v) ∷ es) ((n, s) ∷ new))
+keyed_by true k n s v es new e f g h i = let same = exact k n e in cc
+keyed_by false k n s v es new e f g h i = cc
+
+pub keyed_more : (es : List (List ℕ × Sub)) (k : List ℕ) (v : Sub) → k ≡ v.head.name → Keyed es → Keyed (insert_entry same_text es k v)
+keyed_more [] k v f h = ap (λ n. n ∷ []) f
+keyed_more (e ∷ es) k v f h =
+    let head : e.0 ≡ e.1.head.name = cc in
+    let tail : Keyed es = cc in
+    keyed_by (same_text k e.0) k e.0 e.1 v es (insert_entry same_text es k v) refl f head tail (keyed_more es k v f tail)
+
+all_by : (P : Sub → Type 0) (b : Bool) (n : List ℕ) (s v : Sub) (es new : List (List ℕ × Sub)) → P s → P v → All P (values_of es) → All P (values_of new) → All P (values_of (cond b ((n, v) ∷ es) ((n, s) ∷ new)))
+all_by P true n s v es new p q h i = All-cons P v (values_of es) q h
+all_by P false n s v es new p q h i = All-cons P s (values_of new) p i
+
+pub all_more : (P : Sub → Type 0) (es : List (List ℕ × Sub)) (k : List ℕ) (v : Sub) → P v → All P (values_of es) → All P (values_of (insert_entry same_text es k v))
+all_more P [] k v q h = All-cons P v [] q h
+all_more P (e ∷ es) k v q h =
+    let head = All-head P e.1 (values_of es) h in
+    let tail = All-tail P e.1 (values_of es) h in
+    all_by P (same_text k e.0) e.0 e.1 v es (insert_entry same_text es k v) head q tail (all_more P es k v q tail)

@@ -1,0 +1,11 @@
+use Rattle.std.proofs.Common.{◌≡◌}
+use Rattle.indexmap.specs.IndexMap.{keys, values}
+use Rattle.gl_deck.specs.Bodies.{names_of}
+use Rattle.gl_deck.specs.Calls.{PortsFit}
+use Rattle.gl_deck.proofs.tests_calls.chain.Given as goal
+
+abbrev pub invariant-loop-i : goal.invariant-loop-i
+invariant-loop-i l = record {
+  keyed : keys l.subs ≡ names_of (values l.subs);
+  fit : PortsFit (values l.subs);
+}

@@ -1,0 +1,184 @@
+ghost use Rattle.std.specs.Prelude.{◌≡◌, ◌<◌, [], ◌∷◌, IfOk, IfSome};
+ghost use Rattle.std.specs.Bool.{OnTrue};
+ghost use Rattle.std.specs.List.{AllByRecursion};
+ghost use Rattle.indexmap.specs.IndexMap.{keys, values};
+ghost use Rattle.gl_text.specs.Decks.{callees};
+ghost use Rattle.gl_text.specs.Levels.{Down};
+ghost use Rattle.gl_deck.specs.Bodies.{bodies_value, names_of};
+ghost use Rattle.gl_deck.specs.Levels.{AreLevels, level_in, place_in};
+
+use crate::{Body, Name, Sub};
+use indexmap::IndexMap;
+use std::alloc::{AllocError, Global};
+
+/// Where the subcircuit of this name stands in the table.
+pub fn place_of(subs: &IndexMap<Name, Sub>, name: &Name) -> Option<usize>
+    requires keyed { keys subs.now ≡ names_of (values subs.now) }
+    ensures place { result ≡ place_in (values subs.now) name.now }
+{
+    subs.get_index_of(name)
+}
+
+/// The number of the subcircuit of this name; 0 where there is none.
+pub fn level_of(subs: &IndexMap<Name, Sub>, levels: &[usize], name: &Name) -> usize
+    requires keyed { keys subs.now ≡ names_of (values subs.now) }
+    ensures level { result ≡ level_in (values subs.now) levels.now name.now }
+{
+    match place_of(subs, name) {
+        Some(place) => levels.get(place).copied().unwrap_or(0),
+        None => 0,
+    }
+}
+
+/// Where the subcircuit that a card calls stands in the table.
+fn callee(subs: &IndexMap<Name, Sub>, card: &Body) -> Option<usize> {
+    match card {
+        Body::Dev(_, _) => None,
+        Body::Call(_, call) => subs.get_index_of(call.sub()),
+    }
+}
+
+/// One more call of the subcircuit at a place.
+fn count(calls: &mut [usize], place: Option<usize>) {
+    if let Some(place) = place {
+        if let Some(calls) = calls.get_mut(place) {
+            *calls = calls.saturating_add(1);
+        }
+    }
+}
+
+/// Counts the calls that stand on these cards.
+fn count_cards(calls: &mut [usize], subs: &IndexMap<Name, Sub>, cards: &[Body]) {
+    for card in cards {
+        count(calls, callee(subs, card));
+    }
+}
+
+/// For each subcircuit, how many calls of it there are.
+fn call_counts(alloc: Global, subs: &IndexMap<Name, Sub>) -> Result<Vec<usize>, AllocError> {
+    let mut calls = vec![in alloc; 0; subs.len()]?;
+    for sub in subs.values() {
+        count_cards(&mut calls, subs, sub.cards());
+    }
+    Ok(calls)
+}
+
+/// The places of subcircuits that nothing calls.
+fn uncalled(alloc: Global, calls: &[usize]) -> Result<Vec<usize>, AllocError> {
+    let mut places = Vec::new(alloc);
+    for (place, calls) in calls.iter().enumerate() {
+        if *calls == 0 {
+            places.push(place)?;
+        }
+    }
+    Ok(places)
+}
+
+/// One call less of the subcircuit at a place, which is ready once nothing calls it.
+fn release(calls: &mut [usize], ready: &mut Vec<usize>, place: usize) -> Result<(), AllocError> {
+    if let Some(calls) = calls.get_mut(place) {
+        *calls = calls.saturating_sub(1);
+        if *calls == 0 {
+            ready.push(place)?;
+        }
+    }
+    Ok(())
+}
+
+/// Takes the calls of the subcircuit at a place away.
+fn release_calls(
+    calls: &mut [usize],
+    ready: &mut Vec<usize>,
+    subs: &IndexMap<Name, Sub>,
+    place: usize,
+) -> Result<(), AllocError> {
+    if let Some((_, sub)) = subs.get_index(place) {
+        for card in sub.cards() {
+            if let Some(callee) = callee(subs, card) {
+                release(calls, ready, callee)?;
+            }
+        }
+    }
+    Ok(())
+}
+
+/// Numbers for the subcircuits by their places: those that call before those that they call, from the number of
+/// subcircuits down to 1. One whose callers have no number has none either, and 0 stands there.
+fn numbers(alloc: Global, subs: &IndexMap<Name, Sub>) -> Result<Vec<usize>, AllocError> {
+    let mut calls = call_counts(alloc, subs)?;
+    let mut ready = uncalled(alloc, &calls)?;
+    let mut levels = vec![in alloc; 0; subs.len()]?;
+    for done in 0..subs.len() {
+        let Some(place) = ready.pop() else {
+            return Ok(levels);
+        };
+        if let Some(level) = levels.get_mut(place) {
+            *level = subs.len() - done;
+        }
+        release_calls(&mut calls, &mut ready, subs, place)?;
+    }
+    Ok(levels)
+}
+
+/// What a card calls has a number below this one.
+fn card_goes_down(subs: &IndexMap<Name, Sub>, levels: &[usize], level: usize, card: &Body) -> bool
+    requires keyed { keys subs.now ≡ names_of (values subs.now) }
+    ensures down { OnTrue result (AllByRecursion (λ n. level_in (values subs.now) levels.now n < level) (callees (bodies_value (card.now ∷ [])))) }
+{
+    match card {
+        Body::Dev(_, _) => true,
+        Body::Call(_, call) => level_of(subs, levels, call.sub()) < level,
+    }
+}
+
+/// What these cards call has numbers below this one.
+fn cards_go_down(subs: &IndexMap<Name, Sub>, levels: &[usize], level: usize, cards: &[Body]) -> bool
+    requires keyed { keys subs.now ≡ names_of (values subs.now) }
+    ensures down { OnTrue result (AllByRecursion (λ n. level_in (values subs.now) levels.now n < level) (callees (bodies_value cards.now))) }
+{
+    let mut rest = cards;
+    while let [card, behind @ ..] = rest {
+        if !card_goes_down(subs, levels, level, card) {
+            return false;
+        }
+        rest = behind;
+    }
+    true
+}
+
+/// What a subcircuit calls has numbers below its own.
+fn goes_down(subs: &IndexMap<Name, Sub>, levels: &[usize], sub: &Sub) -> bool
+    requires keyed { keys subs.now ≡ names_of (values subs.now) }
+    ensures down { OnTrue result (Down (level_in (values subs.now) levels.now) (sub.now ∷ [])) }
+{
+    let level = level_of(subs, levels, sub.head().name());
+    cards_go_down(subs, levels, level, sub.cards())
+}
+
+/// By these numbers each call of a subcircuit goes down.
+fn all_go_down(subs: &IndexMap<Name, Sub>, levels: &[usize]) -> bool
+    requires keyed { keys subs.now ≡ names_of (values subs.now) }
+    ensures down { OnTrue result (AreLevels (values subs.now) levels.now) }
+{
+    let mut rest = subs.values().as_slice();
+    while let [sub, behind @ ..] = rest {
+        if !goes_down(subs, levels, sub) {
+            return false;
+        }
+        rest = behind;
+    }
+    true
+}
+
+/// Numbers of the subcircuits, by their places, by which each call of a subcircuit goes down. There are such numbers unless
+/// calls lead back to where they come from, and then they are found.
+pub fn levels(alloc: Global, subs: &IndexMap<Name, Sub>) -> Result<Option<Vec<usize>>, AllocError>
+    requires keyed { keys subs.now ≡ names_of (values subs.now) }
+    ensures down { IfOk result (λ found. IfSome found (λ levels. AreLevels (values subs.now) levels.items)) }
+{
+    let levels = numbers(alloc, subs)?;
+    if all_go_down(subs, &levels) {
+        return Ok(Some(levels));
+    }
+    Ok(None)
+}
