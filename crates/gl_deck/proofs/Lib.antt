@@ -4,3 +4,4 @@ pub mod Members
 pub mod ReachLaws
 pub mod WalkLaws
 pub mod TableLaws
+pub mod PrintingLaws

@@ -6,6 +6,7 @@ mod calls;
 mod deck;
 mod fault;
 mod levels;
+mod print;
 mod reach;
 mod site;
 mod sub;
