@@ -12,6 +12,8 @@ mod site;
 mod sub;
 #[cfg(test)]
 mod tests_calls;
+#[cfg(test)]
+mod tests_print;
 
 pub use body::Body;
 pub use deck::Deck;
