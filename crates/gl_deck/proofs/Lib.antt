@@ -17,3 +17,4 @@ pub mod TitleLaws
 pub mod TwiceLaws
 pub mod WalkLaws
 pub mod Whole
+pub mod PrintingLaws
