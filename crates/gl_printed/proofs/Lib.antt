@@ -5,3 +5,4 @@ pub mod KindTables
 pub mod Refusals
 pub mod PrintedLines
 pub mod ReadCardLaws
+pub mod PrintedCardLaws
