@@ -3,6 +3,7 @@ pub mod Bytes
 pub mod Fields
 pub mod KindTables
 pub mod Refusals
-pub mod PrintedLines
+pub mod PrintedFields
 pub mod ReadCardLaws
 pub mod PrintedCardLaws
+pub mod PrintedLineLaws

@@ -13,7 +13,7 @@ use Rattle.gl_printed.proofs.Bytes.{IsStart, each_tail, each_end, end_twice, end
 use Rattle.gl_printed.proofs.Fields.{run, run_end, IsWord, Holds, later, first_is, first_field_is, fields_words, fields_lines, fields_hold, joined_shorter}
 use Rattle.gl_printed.proofs.KindTables.{start_is, letter_is, dot_is, word_wanted, kind_shaped, Shaped}
 use Rattle.gl_printed.proofs.Refusals.{IsReadAs, read_as, HasCard, has_card, when_none}
-use Rattle.gl_printed.proofs.PrintedLines.{Short, joined_line, with_tail_line, with_tail_length}
+use Rattle.gl_printed.proofs.PrintedFields.{Short, joined_line, with_tail_line, with_tail_length}
 
 -- the fields of one line that is not too long
 record IsFields (fs : List (List ℕ)) : Type 0 where

@@ -1,1 +1,2 @@
 pub mod ReadCards
+pub mod PrintedLines

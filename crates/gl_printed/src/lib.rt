@@ -3,4 +3,4 @@
 
 mod laws;
 
-pub use laws::{fine_cards_are_read, read_cards_are_fine};
+pub use laws::{fine_cards_are_read, printed_cards_are_lines, read_cards_are_fine};
