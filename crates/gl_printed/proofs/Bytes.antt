@@ -1,5 +1,5 @@
 -- Bytes: separators, folding, trimming.
-use Rattle.std.proofs.Common.{◌≡◌, ◌≤◌, ◌+◌, ℕ, zero, suc, List, [], ◌∷◌, ◌++◌, length, map, cond, eqb, leb, true, false, Bool, refl, sym, ap, ◌∙◌, arith, ne_eqb, leb-true}
+use Rattle.std.proofs.Common.{◌≡◌, ◌≤◌, ◌+◌, ℕ, List, [], ◌∷◌, ◌++◌, length, cond, eqb, leb, true, false, Bool, refl, ap, arith, ne_eqb, leb-true}
 use Rattle.std.specs.Prelude.{◌||◌, ◌&&◌}
 use Rattle.std.specs.List.{AllByRecursion}
 use Rattle.std.proofs.lemmas.Bool.{or_parts, lt-leb}
@@ -118,6 +118,7 @@ end_same p (x ∷ xs) l = by (trim_end p xs) (end_same p xs) l where
   one : (zs ys : List ℕ) → ys ≡ [] → (length zs ≤ length ys → ys ≡ zs) → length (x ∷ zs) ≤ length (x ∷ []) → x ∷ [] ≡ x ∷ zs
   one [] ys e f m = refl
   one (z ∷ zs) ys e f m = absurd (omega arith)
+
   by : (ys : List ℕ) → (length xs ≤ length ys → ys ≡ xs) → length (x ∷ xs) ≤ length (put_back p x ys) → put_back p x ys ≡ x ∷ xs
   by [] f l = by_cond (λ zs. length (x ∷ xs) ≤ length zs → zs ≡ x ∷ xs) (p x) [] (x ∷ []) (λ h m. absurd (omega arith)) (λ h m. one xs [] refl f m) l
   by (y ∷ ys) f l = ap (λ zs. x ∷ zs) (f (omega arith))
@@ -160,9 +161,12 @@ end_append (x ∷ xs) y ys h = by xs (end_append xs y ys h) where
   by [] e = ap (put_back is_blank x) e
   by (z ∷ zs) e = ap (put_back is_blank x) e
 
+pub twice_by : (p : ℕ → Bool) (xs : List ℕ) → trim_end p (trim_end p xs) ≡ trim_end p xs
+twice_by p [] = refl
+twice_by p (x ∷ xs) = by (trim_end p xs) (twice_by p xs) where
+  by : (ys : List ℕ) → trim_end p ys ≡ ys → trim_end p (put_back p x ys) ≡ put_back p x ys
+  by [] e = by_cond (λ zs. trim_end p zs ≡ zs) (p x) [] (x ∷ []) (λ f. refl) (λ f. ap (λ t. cond t [] (x ∷ [])) f)
+  by (y ∷ ys) e = ap (put_back p x) e
+
 pub end_twice : (xs : List ℕ) → Ends (trim_end is_blank xs)
-end_twice [] = refl
-end_twice (x ∷ xs) = by (trim_end is_blank xs) (end_twice xs) where
-  by : (ys : List ℕ) → Ends ys → Ends (put_back is_blank x ys)
-  by [] e = by_cond Ends (is_blank x) [] (x ∷ []) (λ f. refl) (λ f. ap (λ t. cond t [] (x ∷ [])) f)
-  by (y ∷ ys) e = ap (put_back is_blank x) e
+end_twice = twice_by is_blank

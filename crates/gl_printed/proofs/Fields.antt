@@ -1,12 +1,12 @@
 -- Fields of a text: each is plain, and together they are no longer than the text.
-use Rattle.std.proofs.Common.{◌≡◌, ◌≤◌, ◌+◌, ℕ, zero, suc, List, [], ◌∷◌, ◌++◌, length, map, drop, filter, cond, eqb, ltb, true, false, Bool, refl, sym, ap, ◌∙◌, arith, length-append, lt-ltb}
+use Rattle.std.proofs.Common.{◌≡◌, ◌≤◌, ◌+◌, ℕ, suc, List, [], ◌∷◌, length, map, filter, cond, eqb, ltb, true, false, Bool, refl, ap, ◌∙◌, arith, length-append, lt-ltb}
 use Rattle.std.specs.List.{AllByRecursion, join_with_byte}
 use Rattle.std.proofs.lemmas.List.{length-map}
 use Rattle.gl_text.specs.LogicalLines.{Piece, onto, pieces_of, is_field, fields_of, is_blank, is_separator, fold_byte, folded, put_back, trim_end, head_bytes, first_field}
 use Rattle.gl_text.specs.Cards.{all_fields}
 use Rattle.gl_printed.specs.ReadCards.{IsOneLine}
-use Rattle.gl_printed.proofs.Each.{by_cond, each_to, each_both, each_filter, each_passes, each_map}
-use Rattle.gl_printed.proofs.Bytes.{Plain, folded_plain, folded_line, folded_twice, plain_no_blank}
+use Rattle.gl_printed.proofs.Each.{by_cond, each_both, each_filter, each_map, each_passes, each_to}
+use Rattle.gl_printed.proofs.Bytes.{Plain, folded_line, folded_plain, folded_twice, plain_no_blank}
 
 -- ---- what holds of each byte holds of each piece
 

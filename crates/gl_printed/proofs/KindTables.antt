@@ -1,5 +1,5 @@
 -- What the tables of kinds say.
-use Rattle.std.proofs.Common.{◌≡◌, ◌≤◌, ◌+◌, ℕ, zero, suc, List, [], ◌∷◌, ◌++◌, length, cond, eqb, true, false, Bool, refl, sym, ap, ◌∙◌, subst, arith, eqb-true, codes}
+use Rattle.std.proofs.Common.{◌≡◌, ◌≤◌, ◌+◌, ℕ, List, [], ◌∷◌, ◌++◌, cond, eqb, true, false, Bool, refl, sym, ap, subst, arith, eqb-true, codes}
 use Rattle.std.specs.Prelude.{◌&&◌}
 use Rattle.std.specs.List.{AllByRecursion}
 use Rattle.gl_text.specs.LogicalLines.{same_text, first_field, fold_byte, is_separator}

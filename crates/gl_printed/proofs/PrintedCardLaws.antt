@@ -1,15 +1,15 @@
 -- Fine cards, printed, are read again.
-use Rattle.std.proofs.Common.{◌≡◌, ◌≤◌, ◌+◌, ℕ, zero, suc, List, [], ◌∷◌, ◌++◌, length, map, cond, eqb, ltb, true, false, Bool, Option, Some, None, Ok, refl, sym, ap, ◌∙◌, subst, arith, codes, le-ltb, append-nil}
+use Rattle.std.proofs.Common.{◌≡◌, ◌≤◌, ℕ, List, [], ◌∷◌, ◌++◌, length, map, eqb, ltb, true, false, Option, Some, None, Ok, refl, sym, ap, ◌∙◌, subst, arith, codes, le-ltb, append-nil}
 use Rattle.std.specs.Prelude.{◌&&◌, ◌||◌, option_to_list}
 use Rattle.std.specs.List.{AllByRecursion, join_with_byte, list_any}
 use Rattle.std.proofs.lemmas.Bool.{or_parts}
-use Rattle.gl_text.specs.LogicalLines.{NAME, TAIL, long_name, long_tail, parameters, Line, Piece, is_blank, is_separator, fold_byte, folded, fields_of, first_field, head_bytes, tail_of, trim_end}
+use Rattle.gl_text.specs.LogicalLines.{NAME, TAIL, long_tail, parameters, Line, Piece, is_blank, is_separator, fold_byte, folded, fields_of, head_bytes, tail_of}
 use Rattle.gl_text.specs.WayBack.{IsName}
-use Rattle.gl_text.specs.Cards.{Card, Model, Head, dev, call, model, subckt, ends, global, ended, passed, Kind, device, caller, modelling, opening, closing, globals, ending, control, other, unknown, kinds, by_byte, word_in, dot_words, kind_of, needs, names_of, tail_at, behind, first_or, card_by, card_of, all_fields, no_card, no_card_by, has_parameters, has_nodes, has_long_tail, tail_fault, is_unknown, is_control, read_card, when, with_tail, spaced, printed, first_some}
+use Rattle.gl_text.specs.Cards.{Card, Model, Head, dev, call, model, subckt, ends, global, ended, passed, Kind, modelling, opening, closing, globals, other, kinds, by_byte, word_in, dot_words, kind_of, needs, names_of, tail_at, first_or, card_by, card_of, all_fields, no_card, no_card_by, has_parameters, has_nodes, has_long_tail, tail_fault, is_unknown, is_control, read_card, when, with_tail, spaced, printed}
 use Rattle.gl_text.proofs.CardLaws.{names_are, behind_is, short_names, all_none, device_again}
 use Rattle.gl_text.proofs.CallCardLaws.{call_again}
 use Rattle.gl_printed.specs.ReadCards.{IsRead, IsReadDevice, IsReadCall, IsReadModel, IsReadText, IsFine}
-use Rattle.gl_printed.proofs.Fields.{later, first_is}
+use Rattle.gl_printed.proofs.Fields.{first_is}
 use Rattle.gl_printed.proofs.KindTables.{start_is}
 
 -- ---- a line is read by its kind
@@ -101,7 +101,7 @@ model_again line m h =
     let fs = codes ".model" ∷ rest ++ all_fields m.tail in
     let f : all_fields text ≡ fs = names_are (codes ".model") rest m.tail all in
     read_by line text modelling fs m.tail (model m) (dot_kind (codes "model") rest m.tail (rest ++ all_fields m.tail) f) f
-        (ap tail_of (behind_is (codes ".model") rest m.tail all) ∙ tail_spaced m.tail h.normal) h.names refl (omega arith) refl refl h.short refl
+    (ap tail_of (behind_is (codes ".model") rest m.tail all) ∙ tail_spaced m.tail h.normal) h.names refl (omega arith) refl refl h.short refl
 
 subckt_again : (line : ℕ) (h : Head) → AllByRecursion IsName (h.name ∷ h.ports) → read_card (record { line = line; text = printed (subckt h) }) ≡ Ok (subckt h)
 unfolding NoEqual Free
@@ -141,7 +141,7 @@ small_first b bs h = cc
 device_by : (line : ℕ) (name : List ℕ) (nodes : List (List ℕ)) (kind : Option (List ℕ)) (tail : List ℕ) → IsReadDevice (record { name = name; nodes = nodes; model = kind; tail = tail })
     → read_card (record { line = line; text = printed (dev (record { name = name; nodes = nodes; model = kind; tail = tail })) }) ≡ Ok (dev (record { name = name; nodes = nodes; model = kind; tail = tail }))
 device_by line [] nodes kind tail h = absurd (let a = h.names.0.some in cc)
-device_by line (b ∷ bs) nodes kind tail h = device_again line b bs nodes kind tail (record { letter = λ dot. ap (by_byte (kinds dot)) (small_first b bs h.names.0.small) ∙ h.letter dot; names = h.names; normal = h.normal; short = h.short })
+device_by line (b ∷ bs) nodes kind tail h = device_again line b bs nodes kind tail (record { letter = λ dot. ap (by_byte (kinds dot)) (small_first b bs h.names.0.small) ∙ h.kind.letter dot; names = h.names; normal = h.normal; short = h.short })
 
 call_by : (line : ℕ) (name : List ℕ) (nodes : List (List ℕ)) (sub : List ℕ) → IsReadCall (record { name = name; nodes = nodes; sub = sub })
     → read_card (record { line = line; text = printed (call (record { name = name; nodes = nodes; sub = sub })) }) ≡ Ok (call (record { name = name; nodes = nodes; sub = sub }))

@@ -1,5 +1,5 @@
 -- Printed fields: one line, and how long it is.
-use Rattle.std.proofs.Common.{◌≡◌, ◌≤◌, ◌+◌, ◌*◌, ℕ, suc, List, [], ◌∷◌, ◌++◌, length, eqb, false, refl, arith, length-append}
+use Rattle.std.proofs.Common.{◌≡◌, ◌≤◌, ◌+◌, ◌*◌, ℕ, suc, List, [], ◌∷◌, length, eqb, false, refl, arith, length-append}
 use Rattle.std.specs.List.{AllByRecursion, join_with_byte}
 use Rattle.gl_text.specs.LogicalLines.{NAME}
 use Rattle.gl_text.specs.Cards.{with_tail, spaced}

@@ -1,20 +1,20 @@
 -- Printed cards are logical lines.
-use Rattle.std.proofs.Common.{◌≡◌, ◌≤◌, ◌+◌, ℕ, zero, suc, List, [], ◌∷◌, ◌++◌, length, map, cond, eqb, ltb, true, false, not, Bool, Option, Some, None, Result, Ok, Err, refl, sym, ap, ◌∙◌, subst, arith, codes, le-ltb, lt-ltb, append-nil, append_assoc, filter, flat_map}
-use Rattle.std.specs.Prelude.{◌&&◌, ◌||◌, option_to_list}
+use Rattle.std.proofs.Common.{◌≡◌, ◌≤◌, ◌+◌, ℕ, List, [], ◌∷◌, ◌++◌, length, map, cond, ltb, true, false, not, None, Ok, Err, refl, sym, ap, ◌∙◌, subst, arith, codes, le-ltb, lt-ltb, append-nil, append_assoc, filter, flat_map}
+use Rattle.std.specs.Prelude.{◌&&◌, option_to_list}
 use Rattle.std.specs.List.{AllByRecursion, join_with_byte, onto_first}
-use Rattle.std.proofs.lemmas.Bool.{or_parts, false_from_ne_true}
-use Rattle.gl_text.specs.LogicalLines.{LINE, Fault, long_line, Line, is_blank, is_separator, fold_byte, folded, fields_of, first_field, tail_of, trim_end, trim_front, same_text, begins, put_back, lines_of, trimmed_from, is_kept, is_more, grouped, joined, up_to_end, up_to_long, logical_of, kept_lines, logical_lines}
+use Rattle.std.proofs.lemmas.Bool.{false_from_ne_true}
+use Rattle.gl_text.specs.LogicalLines.{LINE, long_line, Line, is_blank, is_separator, fold_byte, folded, fields_of, first_field, tail_of, trim_end, trim_front, same_text, begins, put_back, lines_of, trimmed_from, is_kept, grouped, joined, up_to_end, up_to_long, logical_of, kept_lines, logical_lines}
 use Rattle.gl_text.specs.WayBack.{IsName}
-use Rattle.gl_text.specs.Cards.{Card, dev, call, model, subckt, ends, global, ended, passed, Kind, ending, unknown, kinds, by_byte, word_in, dot_words, kind_of, names_of, tail_at, card_by, card_of, all_fields, with_tail, spaced, printed, no_card}
+use Rattle.gl_text.specs.Cards.{Card, dev, call, model, subckt, ends, global, ended, passed, ending, unknown, kinds, by_byte, word_in, dot_words, kind_of, names_of, tail_at, card_by, card_of, all_fields, with_tail, printed, no_card}
 use Rattle.gl_text.specs.Decks.{line_of}
-use Rattle.gl_printed.specs.ReadCards.{IsOneLine, IsRead, IsReadModel, IsReadDevice, IsFine}
+use Rattle.gl_printed.specs.ReadCards.{IsOneLine, IsRead, IsFine}
 use Rattle.gl_printed.specs.PrintedLines.{is_end, numbered}
-use Rattle.gl_printed.proofs.Each.{by_cond, filter_all, each_append, each_to}
-use Rattle.gl_printed.proofs.Bytes.{IsStart, Ends, plain_no_blank, end_plain, end_append, normal_end}
-use Rattle.gl_printed.proofs.Fields.{run, first_field_is}
+use Rattle.gl_printed.proofs.Each.{each_append, each_to, filter_all}
+use Rattle.gl_printed.proofs.Bytes.{Ends, IsStart, end_append, end_plain, normal_end, plain_no_blank}
+use Rattle.gl_printed.proofs.Fields.{first_field_is, run}
 use Rattle.gl_printed.proofs.KindTables.{same_is, start_is}
-use Rattle.gl_printed.proofs.Refusals.{IsReadAs, read_as, has_card}
-use Rattle.gl_printed.proofs.ReadCardLaws.{ended_fine}
+use Rattle.gl_printed.proofs.Refusals.{has_card, read_as}
+use Rattle.gl_printed.proofs.FineByKind.{ended_fine}
 use Rattle.gl_printed.proofs.PrintedCardLaws.{card_again}
 
 -- ---- no blank at the end
@@ -74,7 +74,7 @@ printed_by l (b ∷ bs) n o e s =
       trimmed = ap (trim_front is_blank) e ∙ ap (λ t. cond t (trim_front is_blank bs) text) (plain_no_blank b i.plain);
       kept = rw (lt-ltb 0 (length text) (omega arith), i.no_star) refl;
       no_more = i.no_plus;
-      short = s
+      short = s;
     }
 
 pub card_line : (c : Card) → IsFine c → IsPrinted (printed c)

@@ -1,8 +1,8 @@
 -- What is known where there is no refusal.
 use Rattle.std.proofs.Common.{◌≡◌, ◌≤◌, ℕ, List, [], ◌∷◌, length, map, ltb, true, false, Bool, Option, Some, None, Ok, refl, ltb-false}
 use Rattle.std.specs.List.{AllByRecursion}
-use Rattle.gl_text.specs.LogicalLines.{NAME, Fault, long_name, unknown_card, short_card, control_block, parameters, long_tail, Line, tail_of, is_separator, fields_of}
-use Rattle.gl_text.specs.Cards.{Card, Kind, needs, names_of, tail_at, is_unknown, is_control, first_some, when, no_card, no_card_by, has_parameters, has_long_tail, tail_fault, card_of, read_card, or_else, all_fields, kind_of, first_byte}
+use Rattle.gl_text.specs.LogicalLines.{NAME, Fault, long_name, unknown_card, short_card, control_block, Line}
+use Rattle.gl_text.specs.Cards.{Card, Kind, needs, names_of, is_unknown, is_control, first_some, when, no_card, no_card_by, has_parameters, has_long_tail, card_of, read_card, or_else, first_byte}
 
 pub none_first : (o : Option Fault) (os : List (Option Fault)) → first_some (o ∷ os) ≡ None → (o ≡ None) × (first_some os ≡ None)
 none_first None os h = (refl, h)
@@ -58,5 +58,5 @@ has_card l kind fields h =
       short = short_names l.line (names_of kind fields) a.0;
       known = when_none (is_unknown kind) (unknown_card l.line (first_byte l.text)) b.0;
       enough = ltb-false (length fields) (needs kind) (when_none (ltb (length fields) (needs kind)) (short_card l.line (length fields) (needs kind)) d.0);
-      free = when_none (is_control kind) (control_block l.line) f.0
+      free = when_none (is_control kind) (control_block l.line) f.0;
     }

@@ -1,2 +1,4 @@
 pub mod ReadCards
 pub mod PrintedLines
+pub mod ReadDecks
+pub mod WorkedDecks

@@ -2,7 +2,7 @@
 use Rattle.std.specs.Prelude.{◌≡◌, ◌≤◌, ◌==◌, ℕ, false, List, [], ◌∷◌, ◌++◌, length, option_to_list}
 use Rattle.std.specs.List.{AllByRecursion}
 use Rattle.gl_text.specs.LogicalLines.{LINE, TAIL, is_blank, trim_end, tail_of}
-use Rattle.gl_text.specs.Cards.{Device, Call, Model, Head, Card, dev, call, model, subckt, ends, global, ended, passed, Kind, device, caller, other, kinds, by_byte, kind_of, first_byte, printed}
+use Rattle.gl_text.specs.Cards.{Device, Call, Model, Card, dev, call, model, subckt, ends, global, ended, passed, Kind, caller, other, IsDeviceCard, kinds, by_byte, kind_of, first_byte, printed}
 use Rattle.gl_text.specs.WayBack.{IsName}
 
 -- a text holds no newline
@@ -11,15 +11,17 @@ IsOneLine text = AllByRecursion (λ b. (b == 10) ≡ false) text
 
 -- a device has the nodes and the model that its letter demands; its tail is normal and short
 pub record IsReadDevice (d : Device) : Type 0 where
-  pub letter : (dot : Kind) → by_byte (kinds dot) (first_byte d.name) ≡ device (length d.nodes) (length (d.name ∷ d.nodes ++ option_to_list d.model))
+  pub kind : IsDeviceCard d
   pub names : AllByRecursion IsName (d.name ∷ d.nodes ++ option_to_list d.model)
   pub normal : tail_of d.tail ≡ d.tail
   pub short : length d.tail ≤ TAIL
 
+-- an X card is one by its letter; its fields are names
 pub record IsReadCall (c : Call) : Type 0 where
   pub letter : (dot : Kind) → by_byte (kinds dot) (first_byte c.name) ≡ caller
   pub names : AllByRecursion IsName (c.name ∷ c.nodes ++ c.sub ∷ [])
 
+-- a model's name and word are names; its tail is normal and short
 pub record IsReadModel (m : Model) : Type 0 where
   pub names : AllByRecursion IsName (m.name ∷ m.word ∷ [])
   pub normal : tail_of m.tail ≡ m.tail

@@ -2,5 +2,12 @@
 #![tactic(auto)]
 
 mod laws;
+mod rows;
 
-pub use laws::{fine_cards_are_read, printed_cards_are_lines, read_cards_are_fine};
+pub use laws::{
+    decks_are_printed_cards, decks_that_read_back_are_fine, fine_cards_are_read,
+    fine_decks_read_back, flattening_sees_no_line_numbers, printed_cards_are_lines,
+    printed_texts_flatten_alike, printed_texts_stay, read_cards_are_fine, read_decks_are_fine,
+    read_decks_read_back,
+};
+pub use rows::{a_deck_without_a_title, a_nested_deck};
