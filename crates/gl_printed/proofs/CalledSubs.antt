@@ -6,7 +6,7 @@ use Rattle.gl_text.specs.Cards.{Card, Call, dev, call, when}
 use Rattle.gl_text.specs.Decks.{Body, dev_at, call_at, Sub, Scope, top_scope, is_inside, find_sub, reaches, call_fault}
 use Rattle.gl_printed.specs.ReadDecks.{body_card, IsCallOf, FindsSub, FindsSubWithin}
 use Rattle.gl_printed.proofs.Refusals.{none_first, when_none}
-use Rattle.gl_printed.proofs.DistinctNames.{body_in, found}
+use Rattle.gl_printed.proofs.DistinctNames.{body_in}
 use Rattle.gl_printed.proofs.Renumbered.{Same, same_call}
 use Rattle.gl_printed.proofs.PlacedCards.{inside, placed}
 use Rattle.gl_printed.proofs.PickedCards.{in_scope_is, not_here}

@@ -88,64 +88,64 @@ none_left_bare (s ∷ ss) = refl
 -- ---- the whole
 
 -- what follows once the devices are known
-finish : List ℕ → List (List ℕ) → List Model → List (List ℕ) → Option Head → List FlatDevice → Result Flat Fault
-finish title rails models passed head devices =
+unfoldable pub finish_flat : List ℕ → List (List ℕ) → List Model → List (List ℕ) → Option Head → List FlatDevice → Result Flat Fault
+finish_flat title rails models passed head devices =
     let flat : Flat = record { title = title; rails = rails; models = models; top = head; devices = devices; passed = passed } in
     or_else (when (ltb TEXT (length (flat_text flat))) (long_text (TEXT + 1))) flat >>= λ flat.
     let names = flat_map bearers devices in
     or_else (first_some (map (λ b. when (ltb NAME (length (bearer_name b))) (long_flat_name (length (bearer_name b)))) names)) flat >>= λ flat.
     or_else (first_clash (map (λ n. net (top_net n)) (codes "0" ∷ rails ++ top_ports head)) names) flat
 
-faults : ℕ → List Sub → List Body → List (Option Fault)
-faults depth subs cs = when (not (is_none_left (at_depth subs cs depth))) (too_deep (DEPTH + 1))
+unfoldable pub faults_flat : ℕ → List Sub → List Body → List (Option Fault)
+faults_flat depth subs cs = when (not (is_none_left (at_depth subs cs depth))) (too_deep (DEPTH + 1))
     ∷ when (ltb CARDS (sum_by (size_of one (sizes one subs depth)) cs)) (too_many_cards (CARDS + 1))
     ∷ when (ltb DEVICES (sum_by (size_of one_device (sizes one_device subs depth)) cs)) (too_many_devices (DEVICES + 1)) ∷ []
 
-abbrev Chosen : Type 0
+abbrev pub Chosen : Type 0
 Chosen = Option Head × List Body
 
-abbrev choice : Option Head → List Body → Chosen
+abbrev pub choice : Option Head → List Body → Chosen
 choice head cs = (head, cs)
 
-behind : ℕ → Deck → List (List ℕ) → Chosen → Result Flat Fault
-behind depth d rails c = or_else (first_some (faults depth d.subs c.1)) c >>= λ x. finish d.title rails d.models d.passed x.0 (flat_devices rails d.subs depth top_place x.1)
+unfoldable pub behind_chosen : ℕ → Deck → List (List ℕ) → Chosen → Result Flat Fault
+behind_chosen depth d rails c = or_else (first_some (faults_flat depth d.subs c.1)) c >>= λ x. finish_flat d.title rails d.models d.passed x.0 (flat_devices rails d.subs depth top_place x.1)
 
-flatten_is : (d : Deck) (rails : List (List ℕ)) (top : Option (List ℕ)) → flatten d rails top ≡ (chosen d top >>= behind DEPTH d rails)
-unfolding finish faults behind
+pub flatten_is : (d : Deck) (rails : List (List ℕ)) (top : Option (List ℕ)) → flatten d rails top ≡ (chosen d top >>= behind_chosen DEPTH d rails)
+unfolding finish_flat faults_flat behind_chosen
 flatten_is d rails top = refl
 
-faults_bare : (depth : ℕ) (subs : List Sub) (cs : List Body) → faults depth (map unnumbered_sub subs) (map unnumbered_body cs) ≡ faults depth subs cs
-unfolding faults
+faults_bare : (depth : ℕ) (subs : List Sub) (cs : List Body) → faults_flat depth (map unnumbered_sub subs) (map unnumbered_body cs) ≡ faults_flat depth subs cs
+unfolding faults_flat
 faults_bare depth subs cs =
     let a = ap is_none_left (depth_bare subs cs depth) ∙ none_left_bare (at_depth subs cs depth) in
     let b = counts_bare one one_blind subs depth cs in
     let c = counts_bare one_device device_blind subs depth cs in
     rw (a, b, c) refl
 
-behind_bare : (depth : ℕ) (d : Deck) (rails : List (List ℕ)) (head : Option Head) (cs : List Body) → behind depth (unnumbered d) rails (choice head (map unnumbered_body cs)) ≡ behind depth d rails (choice head cs)
-unfolding behind
-behind_bare depth d rails head cs = ap (λ os. or_else (first_some os) (choice head (map unnumbered_body cs)) >>= next) (faults_bare depth d.subs cs) ∙ by (first_some (faults depth d.subs cs)) where
+behind_bare : (depth : ℕ) (d : Deck) (rails : List (List ℕ)) (head : Option Head) (cs : List Body) → behind_chosen depth (unnumbered d) rails (choice head (map unnumbered_body cs)) ≡ behind_chosen depth d rails (choice head cs)
+unfolding behind_chosen
+behind_bare depth d rails head cs = ap (λ os. or_else (first_some os) (choice head (map unnumbered_body cs)) >>= next) (faults_bare depth d.subs cs) ∙ by (first_some (faults_flat depth d.subs cs)) where
   next : Chosen → Result Flat Fault
-  next x = finish d.title rails d.models d.passed x.0 (flat_devices rails (map unnumbered_sub d.subs) depth top_place x.1)
+  next x = finish_flat d.title rails d.models d.passed x.0 (flat_devices rails (map unnumbered_sub d.subs) depth top_place x.1)
 
-  by : (o : Option Fault) → (or_else o (choice head (map unnumbered_body cs)) >>= next) ≡ (or_else o (choice head cs) >>= λ x. finish d.title rails d.models d.passed x.0 (flat_devices rails d.subs depth top_place x.1))
-  by None = ap (finish d.title rails d.models d.passed head) (devices_bare rails d.subs depth top_place cs)
+  by : (o : Option Fault) → (or_else o (choice head (map unnumbered_body cs)) >>= next) ≡ (or_else o (choice head cs) >>= λ x. finish_flat d.title rails d.models d.passed x.0 (flat_devices rails d.subs depth top_place x.1))
+  by None = ap (finish_flat d.title rails d.models d.passed head) (devices_bare rails d.subs depth top_place cs)
   by (Some f) = refl
 
 -- ---- the chosen cards
 
-pick : List ℕ → Option Sub → List Body → Result Chosen Fault
+unfoldable pub pick : List ℕ → Option Sub → List Body → Result Chosen Fault
 pick name None top = Err (no_top name)
 pick name (Some s) [] = Ok (choice (Some s.head) s.cards)
 pick name (Some s) (card ∷ cards) = Err (top_devices (line_of_body card))
 
-pick_is : (d : Deck) (name : List ℕ) → chosen d (Some name) ≡ pick name (find_sub d.subs name) d.top
+pub pick_is : (d : Deck) (name : List ℕ) → chosen d (Some name) ≡ pick name (find_sub d.subs name) d.top
 unfolding pick
 pick_is d name = refl
 
 -- both come to the flat deck, or neither does
 Both : Deck → List (List ℕ) → Flat → Result Chosen Fault → Result Chosen Fault → Type 0
-Both d rails flat r s = ((r >>= behind DEPTH d rails) ≡ Ok flat) ↔ ((s >>= behind DEPTH (unnumbered d) rails) ≡ Ok flat)
+Both d rails flat r s = ((r >>= behind_chosen DEPTH d rails) ≡ Ok flat) ↔ ((s >>= behind_chosen DEPTH (unnumbered d) rails) ≡ Ok flat)
 
 ok_both : (d : Deck) (rails : List (List ℕ)) (flat : Flat) (head : Option Head) (cs : List Body) → Both d rails flat (Ok (choice head cs)) (Ok (choice head (map unnumbered_body cs)))
 unfolding Both

@@ -84,10 +84,14 @@ dot_shaped unknown h = tt
 shaped : (nodes count : ℕ) → nodes + 1 ≤ count → count ≤ nodes + 2 → count ≤ 6 → Shaped (device nodes count)
 shaped nodes count a b c = (a, b, c)
 
-pub kind_shaped : (b : ℕ) (bs : List ℕ) → Shaped (kind_of (b ∷ bs))
-kind_shaped b bs = let dot = word_in dot_words (first_field (b ∷ bs)) in
+pub letter_shaped : (dot : Kind) (b : ℕ) → Shaped dot → Shaped (by_byte (kinds dot) b)
+letter_shaped dot b d =
     let two : Shaped (device 2 3) = shaped 2 3 (omega arith) (omega arith) (omega arith) in
-    kind_elim Shaped (kinds dot) (fold_byte b) (shaped 4 6 (omega arith) (omega arith) (omega arith), (shaped 2 4 (omega arith) (omega arith) (omega arith), (two, (two, (two, (two, (two, (tt, (dot_shaped dot (word_of_dot (first_field (b ∷ bs))), tt))))))))) tt
+    kind_elim Shaped (kinds dot) b
+    (shaped 4 6 (omega arith) (omega arith) (omega arith), (shaped 2 4 (omega arith) (omega arith) (omega arith), (two, (two, (two, (two, (two, (tt, (d, tt))))))))) tt
+
+pub kind_shaped : (b : ℕ) (bs : List ℕ) → Shaped (kind_of (b ∷ bs))
+kind_shaped b bs = let dot = word_in dot_words (first_field (b ∷ bs)) in letter_shaped dot (fold_byte b) (dot_shaped dot (word_of_dot (first_field (b ∷ bs))))
 
 -- a kind that no dot gives does not depend on what the dot gives
 abbrev behind_dot : Kind → List (ℕ × Kind)

@@ -30,3 +30,8 @@ pub mod ReadBackLaws
 pub mod SameDecks
 pub mod FlatAlike
 pub mod ReprintedLaws
+pub mod NameBytes
+pub mod FlatDevices
+pub mod FlatNames
+pub mod FlatClashes
+pub mod FlatDeckLaws

@@ -1,15 +1,15 @@
 -- What is known of a deck that was read does not depend on line numbers.
-use Rattle.std.proofs.Common.{◌≡◌, ℕ, List, [], ◌∷◌, map, true, false, Bool, Ok, refl, sym, ap, ◌∙◌, subst, codes}
+use Rattle.std.proofs.Common.{◌≡◌, ℕ, List, [], ◌∷◌, map, true, false, refl, sym, ap, ◌∙◌, subst, codes}
 use Rattle.std.specs.List.{AllByRecursion}
 use Rattle.gl_text.specs.Cards.{Model, global, model, passed}
-use Rattle.gl_text.specs.Decks.{Body, dev_at, call_at, Sub, Deck, has_twice, is_in, read_deck, deck_text}
+use Rattle.gl_text.specs.Decks.{Body, dev_at, call_at, Sub, Deck, has_twice, is_in, deck_text}
 use Rattle.gl_printed.specs.ReadCards.{IsFine}
 use Rattle.gl_printed.specs.ReadDecks.{body_card, body_name, IsTitle, AllDiffer, FindsSub, FindsSubWithin, IsReadSub, IsReadDeck, unnumbered_body, unnumbered_sub, unnumbered, ReadsBack}
 use Rattle.gl_printed.proofs.Each.{each_map, each_to}
 use Rattle.gl_printed.proofs.Renumbered.{Same, same_call}
 use Rattle.gl_printed.proofs.ReadDeckLaws.{read_fine}
 
-each_unmap : {X Y : Type 0} (P : Y → Type 0) (f : X → Y) (xs : List X) → AllByRecursion P (map f xs) → AllByRecursion (λ x. P (f x)) xs
+pub each_unmap : {X Y : Type 0} (P : Y → Type 0) (f : X → Y) (xs : List X) → AllByRecursion P (map f xs) → AllByRecursion (λ x. P (f x)) xs
 each_unmap P f [] h = tt
 each_unmap P f (x ∷ xs) h = (h.0, each_unmap P f xs h.1)
 

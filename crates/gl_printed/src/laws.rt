@@ -3,9 +3,10 @@ ghost use Rattle.std.specs.List.{AllByRecursion};
 ghost use Rattle.gl_text.specs.LogicalLines.{LINE, Line, logical_lines};
 ghost use Rattle.gl_text.specs.Cards.{Card, ended, printed, read_card};
 ghost use Rattle.gl_text.specs.Decks.{Deck, deck_text, line_of, read_deck};
-ghost use Rattle.gl_text.specs.Flattening.{Flat, flat_job, flatten};
+ghost use Rattle.gl_text.specs.Flattening.{Flat, flat_job, flat_of, flat_text, flatten};
 ghost use Rattle.gl_printed.specs.ReadCards.{IsFine, IsOneLine};
 ghost use Rattle.gl_printed.specs.ReadDecks.{IsReadDeck, ReadsBack, cards_of, reprinted, unnumbered};
+ghost use Rattle.gl_printed.specs.FlatDecks.{AreRails, FlatReadsBack, deck_of};
 ghost use Rattle.gl_printed.specs.PrintedLines.{is_end, numbered};
 
 /// A card that was read from one line, which is not too long, is fine.
@@ -62,4 +63,19 @@ pub fn flattening_sees_no_line_numbers()
 /// A printed deck flattens to the text to which the deck that it was printed from flattens.
 pub fn printed_texts_flatten_alike()
     ensures alike { (top : Option (List ℕ)) (bytes text flat : List ℕ) → reprinted true bytes ≡ Ok text → flat_job top bytes ≡ Ok flat → flat_job top text ≡ Ok flat }
+{}
+
+/// The text of a flat deck is that of a printed deck.
+pub fn flat_texts_are_printed_decks()
+    ensures are_printed { (flat : Flat) → flat_text flat ≡ deck_text (deck_of flat) }
+{}
+
+/// The flat deck of a deck as it is read, with such rails, is again a deck as it is read.
+pub fn flat_decks_are_fine()
+    ensures are_fine { (deck : Deck) (rails : List (List ℕ)) (top : Option (List ℕ)) (flat : Flat) → IsReadDeck deck → AreRails rails → flatten deck rails top ≡ Ok flat → IsReadDeck (deck_of flat) }
+{}
+
+/// The text of a flat deck reads back.
+pub fn flat_texts_read_back()
+    ensures read_back { (top : Option (List ℕ)) (bytes : List ℕ) (flat : Flat) → flat_of top bytes ≡ Ok flat → FlatReadsBack flat }
 {}
