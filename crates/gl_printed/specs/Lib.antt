@@ -1,0 +1,5 @@
+pub mod ReadCards
+pub mod PrintedLines
+pub mod ReadDecks
+pub mod FlatDecks
+pub mod WorkedDecks
