@@ -1,13 +1,12 @@
 -- The chosen instances of a choice: their devices, and their numbers.
-use Rattle.std.proofs.Common.{◌≡◌, ◌∙◌, ◌+◌, ◌<◌, ◌≤◌, ◌++◌, ◌∷◌, [], ℕ, zero, suc, List, Option, None, Some, cond, length, take, refl, sym, ap, arith, inl, inr}
-use Rattle.std.specs.Prelude.{◌⊎◌, slice_get}
-use Rattle.std.specs.List.{count_by, filter_map, range_with_len}
+use Rattle.std.proofs.Common.{◌≡◌, ◌∙◌, ◌+◌, ◌<◌, ◌∷◌, [], ℕ, suc, List, cond, length, take, refl, sym, ap, arith, inl, inr}
+use Rattle.std.specs.List.{count_by, range_with_len}
 use Rattle.std.proofs.lemmas.Bool.{cases_eq, cases_lt}
 use Rattle.std.proofs.lemmas.List.FromFn.{length-range_with_len}
 use Rattle.std.proofs.lemmas.List.Sums.{sum_by-cons}
 use Rattle.gl_match.specs.declared.role.Pick.{Pick}
 use Rattle.gl_match.specs.declared.role.Pick.TheVariants.{Taken, Over}
-use Rattle.gl_cover.specs.Choice.{IsChoice, IsChosen, Meet, chosen_number, is_taken, joined, numbers_of}
+use Rattle.gl_cover.specs.Choice.{IsChoice, IsChosen, Meet, is_taken, joined, numbers_of}
 
 pub apart : (first : ℕ) (lists : List (List (List ℕ))) (picks : List (List Pick)) → IsChoice first lists picks → (i j k l : ℕ) → IsChosen (joined picks) i k → IsChosen (joined picks) j l → Meet (joined lists) i j → i ≡ j
 apart first lists picks h i j k l f g meet = elim (cases_eq i j) [

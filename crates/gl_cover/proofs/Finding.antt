@@ -1,5 +1,5 @@
 -- The least number at the devices of a set is that of the first chosen instance that the set meets.
-use Rattle.std.proofs.Common.{◌≡◌, ◌∙◌, ◌+◌, ◌<◌, ◌≤◌, ◌++◌, ◌∷◌, [], ℕ, suc, List, Bool, Option, None, Some, true, false, cond, eqb, length, refl, sym, ap, arith, inl, inr}
+use Rattle.std.proofs.Common.{◌≡◌, ◌∙◌, ◌+◌, ◌≤◌, ◌++◌, ◌∷◌, [], ℕ, suc, List, Bool, Option, None, Some, true, false, cond, eqb, length, refl, sym, ap, arith, inl, inr}
 use Rattle.std.specs.Prelude.{◌||◌, nat_le, fold}
 use Rattle.std.specs.List.{filter_map, cons_option}
 use Rattle.std.proofs.lemmas.Bool.{both_ways, eqb-true, cases_Bool, cases_lt, le-leb, lt-leb, or_left, or_right, or_parts, cond-true, cond-false}

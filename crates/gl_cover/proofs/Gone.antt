@@ -1,16 +1,16 @@
 -- The picks of the instances that were gone through are the choice for them.
-use Rattle.std.proofs.Common.{◌≡◌, ◌∙◌, ◌+◌, ◌-◌, ◌<◌, ◌≤◌, ◌++◌, ◌∷◌, [], ℕ, zero, suc, List, Bool, Option, None, Some, true, false, cond, eqb, length, map, take, get_or, refl, sym, ap, subst, arith, append_assoc, inl, inr}
-use Rattle.std.specs.Prelude.{◌⊎◌, ◌||◌, Contains, fold, slice_get}
+use Rattle.std.proofs.Common.{◌≡◌, ◌∙◌, ◌+◌, ◌<◌, ◌≤◌, ◌++◌, ◌∷◌, [], ℕ, zero, suc, List, Bool, Option, None, Some, true, false, cond, eqb, length, get_or, refl, sym, ap, subst, arith, append_assoc, inl, inr}
+use Rattle.std.specs.Prelude.{◌⊎◌, Contains, fold, slice_get}
 use Rattle.std.specs.List.{count_by}
-use Rattle.std.proofs.lemmas.Bool.{both_ways, cases_Bool, cases_eq, cases_lt, cond-false, cond-true, eq-eqb, eqb-true, or_cases, or_left, or_right}
-use Rattle.std.proofs.lemmas.List.{append-nil, get_or_append_left, get_or_push, length_push, take-append-le, take_all, take_at}
+use Rattle.std.proofs.lemmas.Bool.{both_ways, cases_Bool, cases_lt, cond-false, cond-true, eq-eqb, eqb-true, or_cases, or_left, or_right}
+use Rattle.std.proofs.lemmas.List.{append-nil, get_or_append_left, get_or_push, length_push, take-append-le, take_at}
 use Rattle.std.proofs.lemmas.List.Sums.{sum_by_push}
 use Rattle.std.proofs.lemmas.Option.{slice_get_within}
 use Rattle.gl_match.specs.declared.role.Pick.{Pick}
 use Rattle.gl_match.specs.declared.role.Pick.TheVariants.{Taken, Over}
 use Rattle.gl_match.specs.Graph.{is_in}
 use Rattle.gl_match.proofs.Lists.{in_cons, in_head, in_none, in_tail}
-use Rattle.gl_cover.specs.Choice.{IsChosen, IsNext, IsOver, IsPicked, Meet, is_taken, joined, set_at}
+use Rattle.gl_cover.specs.Choice.{IsChosen, IsNext, IsOver, IsPicked, is_taken, joined, set_at}
 use Rattle.gl_cover.specs.Picks.{chosen_after, chosen_after_all, first_that, meets, over_or, pick_after, picks_after, picks_by_list}
 
 -- two sets have a device in common
@@ -186,8 +186,7 @@ next_gone first sets picks chosen set h none =
             let within : there.0 < length picks = slice_get_within picks there.0 (Taken (first + m)) there.1 in
             (there.0, pick_old picks p there.0 within ∙ there.1, set_old sets set there.0 (omega (arith, within, len)) ∙ there.2 ∙ sym (get_or_append_left chosen (set ∷ []) [] m old))
         | inr new ↦
-            let last : m ≡ length chosen = omega (arith, new, lt, length_push chosen set) in
-            (
+            let last : m ≡ length chosen = omega (arith, new, lt, length_push chosen set) in (
               length picks,
               pick_new picks p ∙ ap (λ k. Some (Taken (first + k))) (sym last),
               set_new sets set (length picks) len ∙ sym (get_or_push chosen set [] m (sym last)),
@@ -216,7 +215,7 @@ over_gone first sets picks chosen set number h some =
                 omega (arith, within, new.0),
                 pick_old picks p there.0 within ∙ there.1 ∙ ap (λ k. Some (Taken k)) (sym low.1),
                 subst (λ (xs : List ℕ). Share xs (set_at (sets ++ set ∷ []) there.0)) (sym mine)
-                (subst (λ (ys : List ℕ). Share set ys) (sym (set_old sets set there.0 (omega (arith, within, len)) ∙ there.2)) (meets_says set (get_or chosen low.0 []) low.2.passes)),
+                    (subst (λ (ys : List ℕ). Share set ys) (sym (set_old sets set there.0 (omega (arith, within, len)) ∙ there.2)) (meets_says set (get_or chosen low.0 []) low.2.passes)),
               );
               is_lowest = λ j k chosen_is meet. elim (pick_cases picks p j (Taken k) chosen_is) [
                 | inl old ↦

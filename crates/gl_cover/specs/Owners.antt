@@ -1,5 +1,5 @@
 -- Which chosen instance has each device, as the choice keeps it. This project's own.
-use Rattle.std.specs.Prelude.{◌≡◌, ℕ, ◌+◌, List, [], length, Option, None, Some, nat_le, slice_index_or, fold, if◌then◌else◌}
+use Rattle.std.specs.Prelude.{◌≡◌, ℕ, ◌+◌, List, length, Option, None, Some, nat_le, slice_index_or, fold, if◌then◌else◌}
 use Rattle.std.specs.List.{filter_map}
 use Rattle.gl_match.specs.Graph.{is_in}
 use Rattle.gl_cover.specs.Picks.{first_that}

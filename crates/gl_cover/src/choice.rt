@@ -1,7 +1,7 @@
 ghost use Rattle.std.specs.Prelude.{◌≡◌, ◌<◌, ◌≤◌, ◌+◌, ◌^◌, ℕ, length, map, All, IfOk, OnOk, List};
 ghost use Rattle.std.specs.List.{sum_by};
 ghost use Rattle.gl_match.specs.Listing.{Instance as Item};
-ghost use Rattle.gl_cover.specs.Choice.{sets_in, sets_of};
+ghost use Rattle.gl_cover.specs.Choice.{IsChoice, sets_in, sets_of};
 ghost use Rattle.gl_cover.specs.Owners.{Keeps};
 ghost use Rattle.gl_cover.specs.Picks.{chosen_after_all, picks_after, picks_of};
 
@@ -42,6 +42,8 @@ pub fn choose(
 ) -> Result<Vec<Vec<Pick>>, Memory>
     requires below { All (λ list. All (λ i. All (λ dev. dev < devices) i.key.set) list) lists.now }
     requires numbers { first + sum_by (λ (list : List Item). length list) lists.now < 2 ^ 32 }
+    ensures choice { IfOk result (λ picks. IsChoice first (sets_of lists.now)
+        (map (λ v. v.items) picks.items)) }
     ensures picks { IfOk result (λ picks. map (λ v. v.items) picks.items
         ≡ picks_of first (sets_of lists.now)) }
 {

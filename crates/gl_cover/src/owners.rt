@@ -1,5 +1,5 @@
 //! Which chosen instance has each device.
-ghost use Rattle.std.specs.Prelude.{◌≡◌, ◌<◌, ◌≤◌, ◌+◌, ◌^◌, ℕ, [], length, All, IfOk, List, None, Some, if◌then◌else◌};
+ghost use Rattle.std.specs.Prelude.{◌≡◌, ◌<◌, ◌≤◌, ◌+◌, ◌^◌, ℕ, [], length, All, IfOk, List, Some, if◌then◌else◌};
 ghost use Rattle.gl_match.specs.Graph.{is_in};
 ghost use Rattle.gl_cover.specs.Owners.{Keeps, least_owner as least_owner_by, owner_at};
 ghost use Rattle.gl_cover.specs.Picks.{chosen_after, pick_after};

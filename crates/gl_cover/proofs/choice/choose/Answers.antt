@@ -1,16 +1,16 @@
-use Rattle.std.proofs.Common.{◌≡◌, ◌∙◌, ◌+◌, ◌<◌, ◌≤◌, ◌++◌, ◌∷◌, [], ℕ, List, Option, take, get_or, map, length, sym, ap, subst, arith}
+use Rattle.std.proofs.Common.{◌≡◌, ◌∙◌, ◌<◌, ◌≤◌, ◌++◌, ◌∷◌, [], ℕ, List, take, get_or, map, length, sym, ap, subst, arith}
 use Rattle.std.specs.Prelude.{fold}
-use Rattle.std.specs.List.{sum_by}
 use Rattle.std.specs.declared.alloc.Global.{Global}
 use Rattle.std.specs.declared.vec.Vec.{Vec}
-use Rattle.std.proofs.lemmas.List.{get_or-map, length-map, map_push}
+use Rattle.std.proofs.lemmas.List.{get_or-map, length-map, map_push, take_all}
 use Rattle.std.proofs.lemmas.List.Sums.{sum_by_more}
 use Rattle.gl_match.specs.declared.role.Pick.{Pick}
 use Rattle.gl_match.specs.Listing.{Instance}
-use Rattle.gl_cover.specs.Choice.{sets_in, sets_of}
+use Rattle.gl_cover.specs.Choice.{IsChoice, sets_in, sets_of}
 use Rattle.gl_cover.specs.Owners.{Keeps}
-use Rattle.gl_cover.specs.Picks.{chosen_after_all, picks_after, picks_by_list}
+use Rattle.gl_cover.specs.Picks.{chosen_after_all, picks_after, picks_by_list, picks_of}
 use Rattle.gl_cover.proofs.Going.{chosen_by_list_more, lists_more}
+use Rattle.gl_cover.proofs.OneChoice.{picks_are_choice}
 use Rattle.gl_cover.proofs.choice.choose.Goals as goal
 
 pub loop-list-preserved : goal.loop-list-preserved
@@ -44,3 +44,11 @@ loop-list-preserved c =
       next = omega (arith, c.in_ok-pick_all.ensures.next, c.loop-list.invariant.next, count, sum_by_more (λ (list : List Instance). length list) lists i item lt);
       devices = c.in_ok-pick_all.ensures.devices ∙ c.loop-list.invariant.devices;
     }
+
+pub returns-clause-choice : goal.returns-clause-choice
+returns-clause-choice c =
+    let lists = sets_of c.args.lists.now in
+    let i = c.loop-list.list-index in
+    let all : length lists ≤ i = omega (arith, c.loop-list-test.false, length-map c.args.lists.now sets_in) in
+    let same : picks_by_list c.args.first [] (take i lists) ≡ picks_of c.args.first lists = ap (picks_by_list c.args.first []) (take_all i lists all) in
+    subst (λ (ps : List (List Pick)). IsChoice c.args.first lists ps) (sym (c.loop-list.invariant.picks ∙ same)) (picks_are_choice c.args.first lists)
