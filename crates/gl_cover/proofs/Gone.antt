@@ -1,112 +1,17 @@
 -- The picks of the instances that were gone through are the choice for them.
-use Rattle.std.proofs.Common.{◌≡◌, ◌∙◌, ◌+◌, ◌<◌, ◌≤◌, ◌++◌, ◌∷◌, [], ℕ, zero, suc, List, Bool, Option, None, Some, true, false, cond, eqb, length, get_or, refl, sym, ap, subst, arith, append_assoc, inl, inr}
-use Rattle.std.specs.Prelude.{◌⊎◌, Contains, fold, slice_get}
+use Rattle.std.proofs.Common.{◌≡◌, ◌∙◌, ◌+◌, ◌<◌, ◌≤◌, ◌++◌, ◌∷◌, [], ℕ, List, Option, None, Some, true, cond, length, get_or, refl, sym, ap, subst, arith, append_assoc, inl, inr}
+use Rattle.std.specs.Prelude.{fold, slice_get}
 use Rattle.std.specs.List.{count_by}
-use Rattle.std.proofs.lemmas.Bool.{both_ways, cases_Bool, cases_lt, cond-false, cond-true, eq-eqb, eqb-true, or_cases, or_left, or_right}
+use Rattle.std.proofs.lemmas.Bool.{both_ways, cases_lt}
 use Rattle.std.proofs.lemmas.List.{append-nil, get_or_append_left, get_or_push, length_push, take-append-le, take_at}
 use Rattle.std.proofs.lemmas.List.Sums.{sum_by_push}
 use Rattle.std.proofs.lemmas.Option.{slice_get_within}
 use Rattle.gl_match.specs.declared.role.Pick.{Pick}
 use Rattle.gl_match.specs.declared.role.Pick.TheVariants.{Taken, Over}
-use Rattle.gl_match.specs.Graph.{is_in}
-use Rattle.gl_match.proofs.Lists.{in_cons, in_head, in_none, in_tail}
 use Rattle.gl_cover.specs.Choice.{IsChosen, IsNext, IsOver, IsPicked, is_taken, joined, set_at}
 use Rattle.gl_cover.specs.Picks.{chosen_after, chosen_after_all, first_that, meets, over_or, pick_after, picks_after, picks_by_list}
-
--- two sets have a device in common
-abbrev pub Share : List ℕ → List ℕ → Type 0
-Share xs ys = (dev : ℕ) × Contains xs dev × Contains ys dev
-
-in_says : (xs : List ℕ) (x : ℕ) → is_in xs x ≡ true → Contains xs x
-in_says [] x e = absurd cc
-in_says (y ∷ ys) x e = elim (or_cases (eqb y x) (is_in ys x) e) [
-  | inl on ↦ (0, omega arith, eqb-true y x on)
-  | inr later ↦ in_tail y ys x (in_says ys x later)
-]
-
-in_if : (xs : List ℕ) (x : ℕ) → Contains xs x → is_in xs x ≡ true
-in_if [] x h = absurd (in_none x h)
-in_if (y ∷ ys) x h = elim (in_cons y ys x h) [
-  | inl same ↦ or_left (eqb y x) (is_in ys x) (eq-eqb y x same)
-  | inr later ↦ or_right (eqb y x) (is_in ys x) (in_if ys x later)
-]
-
-meets_says : (xs ys : List ℕ) → meets xs ys ≡ true → Share xs ys
-meets_says [] ys e = absurd cc
-meets_says (x ∷ xs) ys e = elim (or_cases (is_in ys x) (meets xs ys) e) [
-  | inl on ↦ (x, in_head x xs, in_says ys x on)
-  | inr later ↦ let r = meets_says xs ys later in (r.0, in_tail x xs r.0 r.1, r.2)
-]
-
-meets_if : (xs ys : List ℕ) → Share xs ys → meets xs ys ≡ true
-meets_if [] ys h = absurd (in_none h.0 h.1)
-meets_if (x ∷ xs) ys h = elim (in_cons x xs h.0 h.1) [
-  | inl same ↦ or_left (is_in ys x) (meets xs ys) (ap (is_in ys) same ∙ in_if ys h.0 h.2)
-  | inr later ↦ or_right (is_in ys x) (meets xs ys) (meets_if xs ys (h.0, later, h.2))
-]
-
--- ---- the first that passes
-
-some_is : (a b : ℕ) → Some a ≡ Some b → a ≡ b
-some_is a b e = cc
-
-none_passes : (test : List ℕ → Bool) (n : ℕ) (chosen : List (List ℕ)) (m : ℕ) → first_that test n chosen ≡ None → m < length chosen → test (get_or chosen m []) ≡ false
-none_passes test n [] m e lt = absurd (omega (arith, lt))
-none_passes test n (s ∷ ss) m e lt = elim (cases_Bool (test s)) [
-  | inl on ↦ let f : Some n ≡ None = sym (cond-true (test s) (Some n) (first_that test (n + 1) ss) on) ∙ e in absurd cc
-  | inr off ↦ at m lt off (λ k g. none_passes test (n + 1) ss k (sym (cond-false (test s) (Some n) (first_that test (n + 1) ss) off) ∙ e) g)
-] where
-  at : (k : ℕ) → k < suc (length ss) → test s ≡ false → ((j : ℕ) → j < length ss → test (get_or ss j []) ≡ false) → test (get_or (s ∷ ss) k []) ≡ false
-  at zero g off rest = off
-  at (suc k) g off rest = rest k (omega (arith, g))
-
--- the first of the sets that passes, and its place
-pub record IsFirst (test : List ℕ → Bool) (chosen : List (List ℕ)) (m : ℕ) : Type 0 where
-  pub within : m < length chosen
-  pub passes : test (get_or chosen m []) ≡ true
-  pub before : (l : ℕ) → l < m → test (get_or chosen l []) ≡ false
-
-first_passes : (test : List ℕ → Bool) (n : ℕ) (chosen : List (List ℕ)) (k : ℕ) → first_that test n chosen ≡ Some k → (m : ℕ) × (k ≡ n + m) × IsFirst test chosen m
-first_passes test n [] k e = absurd cc
-first_passes test n (s ∷ ss) k e = elim (cases_Bool (test s)) [
-  | inl on ↦
-      let same : n ≡ k = some_is n k (sym (cond-true (test s) (Some n) (first_that test (n + 1) ss) on) ∙ e) in
-      (0, omega (arith, same), record { within = omega arith; passes = on; before = λ l lt. absurd (omega (arith, lt)) })
-  | inr off ↦
-      let r = first_passes test (n + 1) ss k (sym (cond-false (test s) (Some n) (first_that test (n + 1) ss) off) ∙ e) in
-      (suc r.0, omega (arith, r.1), record { within = omega (arith, r.2.within); passes = r.2.passes; before = λ l lt. at r.0 off r.2.before l lt })
-] where
-  at : (m : ℕ) → test s ≡ false → ((l : ℕ) → l < m → test (get_or ss l []) ≡ false) → (l : ℕ) → l < suc m → test (get_or (s ∷ ss) l []) ≡ false
-  at m off rest zero lt = off
-  at m off rest (suc l) lt = rest l (omega (arith, lt))
-
--- ---- one more pick
-
-pick_cases : (picks : List Pick) (p : Pick) (i : ℕ) (q : Pick) → slice_get (picks ++ p ∷ []) i ≡ Some q → ((i < length picks) × (slice_get picks i ≡ Some q)) ⊎ ((i ≡ length picks) × (p ≡ q))
-pick_cases [] p zero q e = inr (refl, of p q e) where
-  of : (a b : Pick) → Some a ≡ Some b → a ≡ b
-  of a b f = cc
-pick_cases [] p (suc i) q e = absurd cc
-pick_cases (x ∷ xs) p zero q e = inl (omega arith, e)
-pick_cases (x ∷ xs) p (suc i) q e = elim (pick_cases xs p i q e) [
-  | inl old ↦ inl (omega (arith, old.0), old.1)
-  | inr new ↦ inr (ap suc new.0, new.1)
-]
-
-pick_old : (picks : List Pick) (p : Pick) (i : ℕ) → i < length picks → slice_get (picks ++ p ∷ []) i ≡ slice_get picks i
-pick_old [] p i lt = absurd (omega (arith, lt))
-pick_old (x ∷ xs) p zero lt = refl
-pick_old (x ∷ xs) p (suc i) lt = pick_old xs p i (omega (arith, lt))
-
-pick_new : (picks : List Pick) (p : Pick) → slice_get (picks ++ p ∷ []) (length picks) ≡ Some p
-pick_new [] p = refl
-pick_new (x ∷ xs) p = pick_new xs p
-
-set_old : (sets : List (List ℕ)) (set : List ℕ) (i : ℕ) → i < length sets → set_at (sets ++ set ∷ []) i ≡ set_at sets i
-set_old sets set i lt = get_or_append_left sets (set ∷ []) [] i lt
-
-set_new : (sets : List (List ℕ)) (set : List ℕ) (i : ℕ) → i ≡ length sets → set_at (sets ++ set ∷ []) i ≡ set
-set_new sets set i e = get_or_push sets set [] i (sym e)
+use Rattle.gl_cover.proofs.OneMore.{pick_cases, pick_new, pick_old, set_new, set_old}
+use Rattle.gl_cover.proofs.Shared.{Share, first_passes, meets_if, meets_says, none_passes}
 
 -- the picks of some sets are the choice, and the chosen ones are those that are taken
 pub record IsGone (first : ℕ) (sets : List (List ℕ)) (picks : List Pick) (chosen : List (List ℕ)) : Type 0 where
