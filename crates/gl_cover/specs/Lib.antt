@@ -1,0 +1,3 @@
+pub mod Choice
+pub mod Picks
+pub mod Owners

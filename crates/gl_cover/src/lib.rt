@@ -1,0 +1,12 @@
+//! The choice without overlap: of the instances of some lists, the first that have no device in common.
+#![tactic(auto)]
+
+mod choice;
+mod laws;
+mod owners;
+#[cfg(test)]
+mod tests;
+
+pub use choice::choose;
+pub use gl_match::{Memory, Pick};
+pub use laws::{chosen_instances_are_apart, others_meet_a_chosen_one, picks_are_the_choice};
