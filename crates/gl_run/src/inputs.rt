@@ -28,11 +28,7 @@ pub fn read_deck<D: Desk>(alloc: Global, desk: &mut D, word: &str) -> Result<Dev
 }
 
 /// Reads the library by its word.
-pub fn read_library<D: Desk>(
-    alloc: Global,
-    desk: &mut D,
-    word: &str,
-) -> Result<CellLibrary, Ending>
+pub fn read_library<D: Desk>(alloc: Global, desk: &mut D, word: &str) -> Result<CellLibrary, Ending>
     requires free { (D.shows desk.old Slot.Library).used ≡ false }
     ensures library { IfOk result (λ library. HasReadLibrary (seen D.shows D.held D.wants desk.old desk.new Slot.Library word.now) library) }
     ensures none { IfErr result (λ ending. NoLibrary ending (seen D.shows D.held D.wants desk.old desk.new Slot.Library word.now)) }

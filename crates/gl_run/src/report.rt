@@ -5,11 +5,11 @@ ghost use Rattle.gl_base.specs.Reports.{IsReportable};
 ghost use Rattle.gl_text.specs.OneCell.{IsDeviceDeck, IsCellLibrary};
 ghost use Rattle.gl_run.specs.Lift.{IsReport, base_circuit, cell_pattern, nets_by_name, names_of};
 
-use gl_taken::{DeviceDeck, CellLibrary, Name};
 use gl_legal::{CellList, plain};
 use gl_lib::{Base, Parts, base_of, run_rails};
 use gl_match::Memory;
 use gl_report::{Names, complete_lists_are_named, print};
+use gl_taken::{CellLibrary, DeviceDeck, Name};
 use std::alloc::{AllocError, Global};
 
 /// The circuit of the deck and the pattern of the library's cell.

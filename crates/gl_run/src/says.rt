@@ -95,7 +95,11 @@ fn give_field<D: Desk>(desk: &mut D, field: Option<Field>) -> Result<(), Failed>
 }
 
 /// Gives up to two numbers behind their keys.
-fn give_fields<D: Desk>(desk: &mut D, second: Option<Field>, third: Option<Field>) -> Result<(), Failed>
+fn give_fields<D: Desk>(
+    desk: &mut D,
+    second: Option<Field>,
+    third: Option<Field>,
+) -> Result<(), Failed>
     requires says { (D.shows desk.old Slot.Says).used ≡ true }
     ensures ok { OnOk result (Gives (D.shows desk.old Slot.Says) (D.shows desk.new Slot.Says) (field_part second ++ field_part third)) }
     ensures err { OnErr result (GivesFront (D.shows desk.old Slot.Says) (D.shows desk.new Slot.Says) (field_part second ++ field_part third)) }

@@ -158,7 +158,7 @@ fn rail_is_no_other_net(rt: HostRuntime) -> Result<(), Memory> {
 fn carriage_returns_and_large_letters(rt: HostRuntime) -> Result<(), Memory> {
     let found = lifted(
         rt.alloc(),
-        "M1 OUT IN VDD VDD PCH\r\n M2,OUT (IN 0 0) NCH w=1\r\n.END\r\nm3 out in 0 0 nch\r\n",
+        "M1 OUT IN VDD VDD PCH\r\n M2,OUT (IN 0 0) NCH w=1\r\n.END\r\nm2 out in 0 0 nch\r\n",
         INV,
     )?;
     assert!(rt;
@@ -169,23 +169,96 @@ fn carriage_returns_and_large_letters(rt: HostRuntime) -> Result<(), Memory> {
 }
 
 #[test]
-fn continued_line(rt: HostRuntime) -> Result<(), Memory> {
-    let found = lifted(rt.alloc(), "+ x\n", INV)?;
-    assert!(rt; found.as_slice() == b"2[none][gatelift: 2 deck: 60 NotYet line=5\n]".as_slice());
+fn continued_line_and_separators(rt: HostRuntime) -> Result<(), Memory> {
+    let found = lifted(
+        rt.alloc(),
+        "M1 OUT,IN (VDD VDD) PCH  W=4U\n* note\n+ L=1U\nm2 out in\n+ 0 0 nch\n.options x\n",
+        INV,
+    )?;
+    assert!(rt;
+        found.as_slice()
+            == b"0[cell inv ports 2 instances 1\n1 a=in y=out | mp=m1 mn=m2\nend\n][]".as_slice()
+    );
     Ok(())
 }
 
 #[test]
-fn deck_before_library(rt: HostRuntime) -> Result<(), Memory> {
-    let found = lifted(rt.alloc(), "m1 out in vdd\n", LOOSE)?;
-    assert!(rt; found.as_slice() == b"2[none][gatelift: 2 deck: 60 NotYet line=5\n]".as_slice());
+fn three_resistors(rt: HostRuntime) -> Result<(), Memory> {
+    let found = lifted(
+        rt.alloc(),
+        "r1 a b 1k\nr2 a b 1k\nr3 b a 1k\n",
+        ".subckt par p q\nra p q 1k\nrb p q 1k\n.ends\n",
+    )?;
+    let lines =
+        "1 p=a q=b | ra=r1 rb=r2\n2 p=b q=a | ra=r1 rb=r2\n3 p=a q=b | ra=r1 rb=r3\n4 p=b q=a | ra=r1 rb=r3\n5 p=a q=b | ra=r2 rb=r3\n6 p=b q=a | ra=r2 rb=r3\n";
+    let mut wanted = String::from_str(rt.alloc(), "0[cell par ports 2 instances 6\n")?;
+    wanted.push_str(lines)?;
+    wanted.push_str("end\n][]")?;
+    assert!(rt; found.as_slice() == wanted.as_bytes());
     Ok(())
 }
 
+/// The line that is said of a refused deck or library.
+fn said(alloc: Global, cards: &str, library: &str) -> Result<Vec<u8>, Memory> {
+    let words = words_of(alloc, "lift deck library lifted map report")?;
+    let mut desk = desk_of(alloc, cards, library)?;
+    let _ = run(alloc, &words, &mut desk);
+    Ok(Vec::from_slice(alloc, desk.text(Slot::Says).unwrap_or(b"none"))?)
+}
+
+/// A deck's cards behind line 4, and the refusal that is said.
+const DECKS: [(&str, &str); 8] = [
+    ("+ x\n", "1 LoosePlus line=5"),
+    ("q1 c b e mod\n", "4 UnknownCard line=5 byte=113"),
+    ("m1 out in vdd\n", "5 ShortCard line=5 has=4 needs=6"),
+    ("r1 a b 1\nR1 c d 2\n", "13 DuplicateName line=6 first=5"),
+    ("x1 a b s\n", "17 UnknownSubckt line=5"),
+    (
+        ".subckt s a\n.ends\nx1 p q s\n",
+        "18 WrongNodeCount line=7 has=2 needs=1",
+    ),
+    ("r1 a b 1\n.subckt s a\n.ends\n", "60 NotYet line=6"),
+    (".subckt s a\n.ends\nr1 a b 1\nx1 p s\n", "60 NotYet line=5"),
+];
+
 #[test]
-fn library_refused(rt: HostRuntime) -> Result<(), Memory> {
-    let found = lifted(rt.alloc(), "", LOOSE)?;
-    assert!(rt; found.as_slice() == b"3[none][gatelift: 3 library: 60 NotYet line=1\n]".as_slice());
+fn decks_refused(rt: HostRuntime) -> Result<(), Memory> {
+    let alloc = rt.alloc();
+    for (cards, refusal) in DECKS {
+        let found = said(alloc, cards, LOOSE)?;
+        let mut wanted = String::from_str(alloc, "gatelift: 2 deck: ")?;
+        wanted.push_str(refusal)?;
+        wanted.push_str("\n")?;
+        assert!(rt; found.as_slice() == wanted.as_bytes());
+    }
+    Ok(())
+}
+
+/// A library, and the refusal that is said.
+const LIBRARIES: [(&str, &str); 8] = [
+    (LOOSE, "60 NotYet line=1"),
+    (".model n nmos\n\n", "60 NotYet line=3"),
+    (".subckt s a\n.ends\n", "60 NotYet line=1"),
+    ("\n.subckt s a b\nr1 a 0 1\n.ends\n", "60 NotYet line=2"),
+    (
+        ".subckt s a\nr1 a 0 1\n.ends\n.subckt u a\nr1 a 0 1\n.ends\n",
+        "60 NotYet line=4",
+    ),
+    (".subckt s a\nx1 a s\n.ends\n", "19 Recursive line=2"),
+    (".subckt s a a\n.ends\n", "14 DuplicatePort line=1"),
+    (".subckt s a\n", "10 OpenSubckt line=1"),
+];
+
+#[test]
+fn libraries_refused(rt: HostRuntime) -> Result<(), Memory> {
+    let alloc = rt.alloc();
+    for (library, refusal) in LIBRARIES {
+        let found = said(alloc, "", library)?;
+        let mut wanted = String::from_str(alloc, "gatelift: 3 library: ")?;
+        wanted.push_str(refusal)?;
+        wanted.push_str("\n")?;
+        assert!(rt; found.as_slice() == wanted.as_bytes());
+    }
     Ok(())
 }
 

@@ -57,7 +57,11 @@ pub fn told(fault: DeckFault) -> TakenFault
         DeckFault::ZeroPort { line } => Refusal::ZeroPort { line },
         DeckFault::LongTail { line, len } => Refusal::LongTail { line, len },
         DeckFault::UnknownSubckt { line } => Refusal::UnknownSubckt { line },
-        DeckFault::WrongNodeCount { line, has, needs } => Refusal::WrongNodeCount { line, has, needs },
+        DeckFault::WrongNodeCount { line, has, needs } => Refusal::WrongNodeCount {
+            line,
+            has,
+            needs,
+        },
         DeckFault::Recursive { line } => Refusal::Recursive { line },
         DeckFault::Memory => return TakenFault::Memory,
     })

@@ -8,6 +8,8 @@ mod fault;
 mod library;
 mod lines;
 mod refusal;
+#[cfg(test)]
+mod tests;
 
 pub use devices::DeviceDeck;
 pub use fault::TakenFault;
