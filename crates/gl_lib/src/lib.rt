@@ -11,6 +11,8 @@ mod parts;
 mod rails;
 mod roles;
 mod tables;
+#[cfg(test)]
+mod tests;
 mod type_name;
 mod words;
 
