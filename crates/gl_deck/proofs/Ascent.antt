@@ -1,8 +1,8 @@
 -- The logical lines of bytes: their numbers ascend.
-use Rattle.std.proofs.Common.{◌≡◌, ◌<◌, ◌≤◌, ◌+◌, ℕ, List, [], ◌∷◌, length, map, cond, ltb, true, false, Bool, Result, Ok, Err, arith}
+use Rattle.std.proofs.Common.{◌≤◌, ◌+◌, ℕ, List, [], ◌∷◌, length, map, cond, ltb, true, false, Bool, Result, Ok, Err, arith}
 use Rattle.std.specs.Prelude.{filter, ⊤}
 use Rattle.std.specs.List.{onto_first}
-use Rattle.gl_text.specs.LogicalLines.{LINE, Line, Fault, long_line, loose_plus, is_kept, is_more, grouped, joined, up_to_end, up_to_long, logical_of, kept_lines, logical_lines, trimmed_from, lines_of, first_field, same_text, trim_front, trim_end, is_blank, after_title}
+use Rattle.gl_text.specs.LogicalLines.{LINE, Line, Fault, long_line, is_kept, is_more, grouped, joined, up_to_end, up_to_long, logical_of, kept_lines, logical_lines, trimmed_from, lines_of, first_field, same_text, after_title}
 use Rattle.gl_text.specs.Decks.{file_lines}
 
 -- each number is at least n and more than the one before

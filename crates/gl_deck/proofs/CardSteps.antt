@@ -1,6 +1,6 @@
 -- A card more: each part of a draft is a list over the cards that were placed.
-use Rattle.std.proofs.Common.{◌≡◌, ◌<◌, ◌≤◌, ◌+◌, ℕ, zero, suc, List, [], ◌∷◌, ◌++◌, cond, eqb, true, false, Bool, Option, Some, None, refl, sym, ap, ◌∙◌, subst, arith, inl, inr}
-use Rattle.std.specs.Prelude.{filter_map, flat_map, ⊤, if◌then◌else◌, ◌==◌, length, option_to_list}
+use Rattle.std.proofs.Common.{◌≡◌, ◌<◌, ℕ, List, [], ◌∷◌, ◌++◌, cond, eqb, true, false, Bool, Option, Some, None, refl, sym, ap, ◌∙◌, arith, inl, inr}
+use Rattle.std.specs.Prelude.{filter_map, flat_map, ⊤, length, option_to_list}
 use Rattle.std.specs.List.{AllByRecursion, cons_option}
 use Rattle.std.specs.Map.{lookup}
 use Rattle.std.proofs.lemmas.Bool.{cases_Bool, eqb-true}
@@ -12,8 +12,8 @@ use Rattle.std.specs.Cmp.{nat_eq_equiv}
 use Rattle.indexmap.specs.IndexMap.{insert_entry}
 use Rattle.indexmap.specs.IndexSet.{insert_key, insert_all}
 use Rattle.gl_text.specs.LogicalLines.{same_text}
-use Rattle.gl_text.specs.Cards.{Head, Card, dev, call, model, subckt, ends, global, ended, passed}
-use Rattle.gl_text.specs.Decks.{Body, dev_at, call_at, Sub, Scope, Placed, Named, in_scope, of_model, of_sub, nothing, named, body_of, bodies, model_of, passed_of, globals_of, scope_behind, scope_after}
+use Rattle.gl_text.specs.Cards.{Card, dev, call, model, subckt, ends, global, ended, passed}
+use Rattle.gl_text.specs.Decks.{Body, dev_at, call_at, Sub, Scope, Placed, Named, in_scope, of_model, named, body_of, bodies, model_of, passed_of, globals_of, scope_behind, scope_after}
 use Rattle.gl_deck.specs.Calls.{Site}
 use Rattle.gl_deck.specs.Drafts.{Draft, scope_of, with_card, names_at, known_at}
 

@@ -1,12 +1,11 @@
 -- The subcircuits of a draft, and one that closes.
 use Rattle.std.proofs.Common.{◌≡◌, ◌<◌, ◌^◌, ℕ, List, length, Option, Some, None, refl, sym, ap, ◌∙◌, subst}
-use Rattle.std.specs.Map.{keys_of}
+use Rattle.std.specs.Map.{keys_of, values_of}
 use Rattle.indexmap.specs.IndexMap.{insert_entry}
 use Rattle.gl_text.specs.LogicalLines.{same_text}
 use Rattle.gl_text.specs.Decks.{Sub}
 use Rattle.gl_deck.specs.Bodies.{names_of}
-use Rattle.gl_deck.specs.Cards.{AreSubs, CurrentFits}
-use Rattle.gl_deck.specs.Drafts.{values_of}
+use Rattle.gl_deck.specs.Cards.{AreSubs}
 use Rattle.gl_deck.proofs.TableLaws.{keyed_more, all_more}
 
 -- a subcircuit stands under its name

@@ -1,15 +1,15 @@
 -- What refuses a card behind placed cards refuses it behind their draft.
-use Rattle.std.proofs.Common.{◌≡◌, ◌<◌, ℕ, List, [], ◌∷◌, ◌++◌, map, cond, eqb, ltb, true, false, Bool, Option, Some, None, refl, sym, ap, ◌∙◌, subst}
-use Rattle.std.specs.Prelude.{filter_map, find, ⊤, option_map, is_some, not, ◌&&◌, codes, ◌==◌}
+use Rattle.std.proofs.Common.{◌≡◌, ℕ, List, [], ◌∷◌, map, cond, eqb, true, false, Bool, Option, Some, None, refl, sym, ap, ◌∙◌}
+use Rattle.std.specs.Prelude.{filter_map, find, option_map, is_some, not, ◌&&◌, codes}
 use Rattle.std.specs.List.{cons_option}
-use Rattle.std.specs.Map.{lookup, keys_of}
+use Rattle.std.specs.Map.{lookup, keys_of, values_of}
 use Rattle.std.proofs.lemmas.Bool.{lt-ltb}
 use Rattle.std.proofs.lemmas.List.{append-nil}
 use Rattle.gl_text.specs.LogicalLines.{Fault, Line, same_text, nested_subckt, loose_ends, wrong_ends, local_card, duplicate_name, duplicate_port, zero_port}
 use Rattle.gl_text.specs.Cards.{Head, Card, dev, call, model, subckt, ends, global, ended, passed, first_some, when, has_parameters, has_long_tail}
-use Rattle.gl_text.specs.Decks.{Sub, Scope, Placed, Named, in_scope, of_model, of_sub, nothing, named, same_named, is_inside, is_of_top, is_in, has_twice, ports_of, nested, bad_ends, duplicate}
+use Rattle.gl_text.specs.Decks.{Sub, Scope, Placed, in_scope, of_model, of_sub, nothing, named, same_named, is_inside, is_of_top, is_in, has_twice, ports_of, nested, bad_ends, duplicate}
 use Rattle.gl_deck.specs.Bodies.{names_of}
-use Rattle.gl_deck.specs.Drafts.{Draft, scope_of, names_at, known_at, nested_in, bad_ends_in, local_in, twice_in, zero_in, values_of}
+use Rattle.gl_deck.specs.Drafts.{Draft, scope_of, names_at, known_at, nested_in, bad_ends_in, local_in, twice_in, zero_in}
 use Rattle.gl_deck.proofs.CardSteps.{placed, entry_at, names_in, model_entry, model_name, IsNumbered}
 use Rattle.gl_deck.proofs.SubSteps.{head_in, head_at, head_part, heads_of}
 

@@ -1,7 +1,7 @@
 -- Where a line ends the reading.
-use Rattle.std.proofs.Common.{◌≡◌, List, [], ◌∷◌, Option, Some, None, Result, Ok, Err, refl, sym, ap, ◌∙◌, subst}
+use Rattle.std.proofs.Common.{◌≡◌, List, ◌∷◌, Option, Some, None, Result, Ok, Err, sym, ap, ◌∙◌, subst}
 use Rattle.std.specs.Result.{IsErrAnd}
-use Rattle.gl_text.specs.LogicalLines.{Line, Fault, loose_plus, long_line}
+use Rattle.gl_text.specs.LogicalLines.{Line, Fault}
 use Rattle.gl_text.specs.Decks.{◌>>=◌}
 use Rattle.gl_line.specs.Gives as line
 use Rattle.gl_line.specs.declared.fault.LineFault.{LineFault}

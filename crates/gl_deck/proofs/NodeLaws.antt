@@ -1,5 +1,5 @@
 -- How many nodes an X card has, and how many ports a head.
-use Rattle.std.proofs.Common.{◌≡◌, ◌<◌, ◌≤◌, ◌+◌, ◌^◌, ℕ, List, [], ◌∷◌, length, drop, refl, sym, ap, ◌∙◌, subst, arith}
+use Rattle.std.proofs.Common.{◌≡◌, ◌<◌, ◌≤◌, ◌^◌, ℕ, List, [], ◌∷◌, length, drop, sym, subst, arith}
 use Rattle.std.proofs.lemmas.List.{length-map}
 use Rattle.gl_text.specs.LogicalLines.{LINE, Piece, fields_of, folded}
 use Rattle.gl_text.specs.Cards.{Kind, device, caller, modelling, opening, closing, globals, ending, control, other, unknown, Card, kind_of, names_of, tail_at, card_by, card_of, all_fields, but_last}

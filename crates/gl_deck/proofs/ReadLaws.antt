@@ -1,9 +1,9 @@
 -- The logical lines of bytes: each has a card's length.
-use Rattle.std.proofs.Common.{◌≡◌, ◌<◌, ◌≤◌, ◌+◌, ℕ, zero, suc, List, [], ◌∷◌, ◌++◌, length, map, cond, ltb, true, false, Bool, Result, Ok, Err, refl, sym, ap, ◌∙◌, subst, arith, length-append}
+use Rattle.std.proofs.Common.{◌≡◌, ◌≤◌, ℕ, List, [], ◌∷◌, length, map, cond, ltb, true, false, Bool, Result, Ok, Err, refl, arith, length-append}
 use Rattle.std.specs.Prelude.{filter, flat_map, drop, not, ◌&&◌, ⊤}
-use Rattle.std.specs.List.{AllByRecursion, onto_first}
+use Rattle.std.specs.List.{onto_first}
 use Rattle.std.proofs.lemmas.Bool.{ltb-false, ltb-true}
-use Rattle.gl_text.specs.LogicalLines.{LINE, Line, Fault, long_line, loose_plus, is_kept, is_more, grouped, joined, up_to_end, up_to_long, logical_of, kept_lines, logical_lines, trimmed_from, lines_of, first_field, same_text, begins}
+use Rattle.gl_text.specs.LogicalLines.{LINE, Line, Fault, long_line, is_kept, is_more, grouped, joined, up_to_end, up_to_long, logical_of, kept_lines, logical_lines, trimmed_from, lines_of, first_field, same_text, begins}
 
 -- a line has a byte, and none too many
 abbrev pub AreRead : List (Result Line Fault) → Type 0

@@ -1,17 +1,17 @@
 -- A card more: the subcircuits.
-use Rattle.std.proofs.Common.{◌≡◌, ◌<◌, ◌≤◌, ◌+◌, ℕ, List, [], ◌∷◌, ◌++◌, map, cond, eqb, true, false, Bool, Option, Some, None, refl, sym, ap, ◌∙◌, subst, arith}
-use Rattle.std.specs.Prelude.{filter_map, ⊤, option_map, option_to_list, is_some}
-use Rattle.std.specs.List.{AllByRecursion, cons_option}
-use Rattle.std.specs.Map.{lookup, keys_of}
+use Rattle.std.proofs.Common.{◌≡◌, ◌<◌, ◌≤◌, ◌+◌, ℕ, List, [], ◌∷◌, ◌++◌, map, cond, eqb, false, Option, Some, None, refl, sym, ap, ◌∙◌, subst, arith}
+use Rattle.std.specs.Prelude.{filter_map, ⊤, option_map, option_to_list}
+use Rattle.std.specs.List.{AllByRecursion}
+use Rattle.std.specs.Map.{lookup, keys_of, values_of}
 use Rattle.std.proofs.lemmas.List.{append-nil, map-append}
 use Rattle.indexmap.specs.IndexMap.{insert_entry}
 use Rattle.gl_text.specs.LogicalLines.{same_text}
 use Rattle.gl_text.specs.Cards.{Head, Card, dev, call, model, subckt, ends, global, ended, passed}
-use Rattle.gl_text.specs.Decks.{Body, dev_at, call_at, Sub, Scope, Placed, body_of, bodies, sub_of}
+use Rattle.gl_text.specs.Decks.{Body, dev_at, call_at, Sub, Placed, body_of, bodies}
 use Rattle.gl_deck.specs.Bodies.{names_of}
-use Rattle.gl_deck.specs.Drafts.{Draft, scope_of, with_card, known_at, nested_in, values_of}
+use Rattle.gl_deck.specs.Drafts.{Draft, scope_of, with_card, known_at, nested_in}
 use Rattle.gl_deck.proofs.DraftTables.{keyed}
-use Rattle.gl_deck.proofs.CardSteps.{placed, push, none_more, apart, apart_back, same_number, IsNumbered, absent, current_after, body_in, no_bodies}
+use Rattle.gl_deck.proofs.CardSteps.{placed, push, none_more, apart, apart_back, same_number, absent, current_after, body_in, no_bodies}
 
 -- the line and the head of a `.subckt`
 abbrev pub head_in : ℕ → Card → Option (ℕ × Head)

@@ -1,6 +1,6 @@
 -- How long a title is, and what is behind it.
-use Rattle.std.proofs.Common.{◌≡◌, ◌≤◌, ◌+◌, ◌-◌, ℕ, suc, List, [], ◌∷◌, length, take, drop, cond, eqb, true, false, Bool, refl, sym, ap, ◌∙◌, arith}
-use Rattle.std.specs.List.{before_first, after_first, position_or_len}
+use Rattle.std.proofs.Common.{◌≤◌, ◌+◌, ℕ, suc, List, [], ◌∷◌, length, cond, eqb, true, false, Bool, arith}
+use Rattle.std.specs.List.{before_first, position_or_len}
 use Rattle.std.proofs.lemmas.List.{length-drop, length-take}
 use Rattle.gl_text.specs.LogicalLines.{put_back, trim_end, title_of, after_title}
 

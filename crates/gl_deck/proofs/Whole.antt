@@ -1,20 +1,21 @@
 -- The deck that is read line by line is the deck of the definition.
-use Rattle.std.proofs.Common.{◌≡◌, ◌<◌, ◌≤◌, ◌+◌, ℕ, List, [], ◌∷◌, ◌++◌, map, cond, ltb, true, false, Bool, Option, Some, None, Result, Ok, Err, refl, sym, ap, ◌∙◌, subst, arith}
-use Rattle.std.specs.Prelude.{filter_map, flat_map, ⊤, option_map, filter, not, codes}
+use Rattle.std.proofs.Common.{◌≡◌, ◌<◌, ◌≤◌, ◌+◌, ℕ, List, [], ◌∷◌, ◌++◌, map, ltb, true, Bool, Option, Some, None, Result, Ok, Err, refl, sym, ap, ◌∙◌, subst, arith}
+use Rattle.std.specs.Prelude.{filter_map, flat_map, option_map}
 use Rattle.std.specs.List.{AllByRecursion, cons_option}
 use Rattle.std.proofs.lemmas.Bool.{lt-ltb}
 use Rattle.std.proofs.lemmas.List.{append-nil}
+use Rattle.std.specs.Map.{values_of}
 use Rattle.indexmap.specs.IndexSet.{insert_all}
-use Rattle.gl_text.specs.LogicalLines.{Fault, Line, same_text, open_subckt, title_of}
+use Rattle.gl_text.specs.LogicalLines.{Fault, Line, same_text, open_subckt}
 use Rattle.gl_text.specs.Cards.{Head, Model, Card, dev, call, model, subckt, ends, global, ended, passed, first_some, when, or_else, no_card, card_of}
-use Rattle.gl_text.specs.Decks.{Body, Sub, Deck, Scope, Placed, ◌>>=◌, is_inside, place, placed_from, bodies, sub_of, model_of, passed_of, globals_of, once, deck_by, left_open, call_fault, title_fault, file_lines, read_deck, scope_behind}
+use Rattle.gl_text.specs.Decks.{Body, Sub, Deck, Scope, Placed, ◌>>=◌, is_inside, placed_from, bodies, sub_of, model_of, passed_of, globals_of, once, deck_by, left_open, call_fault, title_fault, file_lines, read_deck, scope_behind}
 use Rattle.gl_deck.specs.Calls.{Site, site_fault}
-use Rattle.gl_deck.specs.Drafts.{Draft, empty_draft, scope_of, with_card, draft_after, known_at, nested_in, names_at, values_of, card_fault, draft_step, drafted_from, open_in, calls_in, deck_of, finished, without_zero, title_in, deck_behind, deck_by_draft}
+use Rattle.gl_deck.specs.Drafts.{Draft, empty_draft, scope_of, with_card, draft_after, known_at, nested_in, names_at, card_fault, drafted_from, calls_in, deck_of, finished, without_zero, title_in, deck_behind, deck_by_draft}
 use Rattle.gl_deck.proofs.Ascent.{Ascends, file_rises}
 use Rattle.gl_deck.proofs.GlobalLaws.{keys_once}
 use Rattle.gl_deck.proofs.CardSteps.{placed, grown, IsNumbered, names_in, name_in, model_name, body_in, site_by, site_at, current_after, current_step, scope_grown, here_step, top_step, top_names_step, model_names_step, models_step, passed_step, sites_step, globals_step, globals_grown}
 use Rattle.gl_deck.proofs.SubSteps.{SubsAre, OpenIs, HasBodies, head_in, head_at, head_part, subs_step}
-use Rattle.gl_deck.proofs.FaultSteps.{HasNames, place_fault, fault_at, faults_same, nothing_nested, nothing_known}
+use Rattle.gl_deck.proofs.FaultSteps.{place_fault, fault_at, faults_same, nothing_nested, nothing_known}
 
 -- a draft is what stands behind these cards, of which the next has line b or a later one
 record IsDraftOf (b : ℕ) (cards : List Placed) (cur : Option Sub) (d : Draft) : Type 0 where

@@ -1,7 +1,7 @@
 -- A deck that is read line by line: what stands of it behind some of its cards. This project's own; the law
 -- `lines_make_the_deck` says that it leads to the deck of the definition.
 use Rattle.std.specs.Prelude.{ℕ, ◌&&◌, not, filter, Bool, List, [], ◌∷◌, ◌++◌, length, map, Option, Some, None, nat_lt, option_map, is_some, Result, Ok, Err, codes, if◌then◌else◌}
-use Rattle.std.specs.Map.{lookup}
+use Rattle.std.specs.Map.{lookup, values_of}
 use Rattle.indexmap.specs.IndexMap.{insert_entry}
 use Rattle.indexmap.specs.IndexSet.{insert_all}
 use Rattle.gl_text.specs.LogicalLines.{LINE, Fault, Line, long_line, nested_subckt, loose_ends, wrong_ends, open_subckt, local_card, duplicate_name, duplicate_port, zero_port, same_text, title_of}
@@ -140,9 +140,6 @@ abbrev pub long_title : List ℕ → Option Fault
 long_title title = when (nat_lt LINE (length title)) (long_line 1 (length title))
 
 -- ---- the deck
-
-abbrev pub values_of : List (List ℕ × Sub) → List Sub
-values_of subs = map (λ (e : List ℕ × Sub). e.1) subs
 
 abbrev pub without_zero : List (List ℕ) → List (List ℕ)
 without_zero names = filter (λ n. not (same_text n (codes "0"))) names

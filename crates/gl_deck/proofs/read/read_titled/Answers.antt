@@ -1,6 +1,6 @@
 use Rattle.std.proofs.Common.{◌≡◌, length, ap, arith}
 use Rattle.gl_text.specs.LogicalLines.{title_of}
-use Rattle.gl_deck.proofs.TitleLaws.{title_few, behind_few}
+use Rattle.gl_deck.proofs.TitleLaws.{title_few}
 use Rattle.gl_deck.proofs.read.read_titled.Goals as goal
 
 pub title_fault-requires : goal.title_fault-requires

@@ -1,6 +1,6 @@
-use Rattle.std.proofs.Common.{◌≡◌, ℕ, List, ap, ◌∙◌}
+use Rattle.std.proofs.Common.{ℕ, List, ap, ◌∙◌}
 use Rattle.gl_text.specs.Decks.{Deck}
-use Rattle.gl_deck.specs.Drafts.{Draft, deck_of}
+use Rattle.gl_deck.specs.Drafts.{deck_of}
 use Rattle.gl_deck.specs.contracts.draft.Draft.{the_view}
 use Rattle.gl_deck.proofs.draft.Draft.into_deck.Goals as goal
 
