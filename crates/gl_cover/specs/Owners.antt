@@ -8,6 +8,7 @@ use Rattle.gl_cover.specs.Picks.{first_that}
 abbrev pub owner_at : List (Option ℕ) → ℕ → Option ℕ
 owner_at owners dev = slice_index_or owners dev None
 
+-- the lesser of a number found before and one more
 abbrev pub lesser_number : Option ℕ → ℕ → Option ℕ
 lesser_number None k = Some k
 lesser_number (Some old) k = Some (if nat_le old k then old else k)
