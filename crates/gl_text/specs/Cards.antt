@@ -10,20 +10,24 @@ pub record Device : Type 0 where
   pub model : Option (List ℕ)
   pub tail : List ℕ
 
+-- an X card: its name, its nodes, and the subcircuit that it calls
 pub record Call : Type 0 where
   pub name : List ℕ
   pub nodes : List (List ℕ)
   pub sub : List ℕ
 
+-- a model: its name, its type word and what follows
 pub record Model : Type 0 where
   pub name : List ℕ
   pub word : List ℕ
   pub tail : List ℕ
 
+-- what a `.subckt` names: the subcircuit and its ports
 pub record Head : Type 0 where
   pub name : List ℕ
   pub ports : List (List ℕ)
 
+-- what one logical line says
 pub data Card : Type 0 where
   dev : Device → Card
   call : Call → Card
@@ -39,13 +43,16 @@ pub data Kind : Type 0 where
   device : ℕ → ℕ → Kind
   caller modelling opening closing globals ending control other unknown : Kind
 
+-- the kind that a table gives a word
 abbrev pub word_in : List (List ℕ × Kind) → List ℕ → Kind
 word_in [] word = other
 word_in (w ∷ ws) word = if same_text w.0 word then w.1 else word_in ws word
 
+-- the dot cards that mean something
 abbrev pub dot_words : List (List ℕ × Kind)
 dot_words = (codes ".subckt", opening) ∷ (codes ".ends", closing) ∷ (codes ".model", modelling) ∷ (codes ".global", globals) ∷ (codes ".end", ending) ∷ (codes ".control", control) ∷ []
 
+-- the kind that a table gives a byte
 abbrev pub by_byte : List (ℕ × Kind) → ℕ → Kind
 by_byte [] b = unknown
 by_byte (w ∷ ws) b = if w.0 == b then w.1 else by_byte ws b
@@ -54,6 +61,7 @@ by_byte (w ∷ ws) b = if w.0 == b then w.1 else by_byte ws b
 abbrev pub kinds : Kind → List (ℕ × Kind)
 kinds dot = (109, device 4 6) ∷ (100, device 2 4) ∷ (114, device 2 3) ∷ (99, device 2 3) ∷ (108, device 2 3) ∷ (118, device 2 3) ∷ (105, device 2 3) ∷ (120, caller) ∷ (46, dot) ∷ []
 
+-- what the card of a text is
 abbrev pub kind_of : List ℕ → Kind
 kind_of [] = unknown
 kind_of (b ∷ bs) = by_byte (kinds (word_in dot_words (first_field (b ∷ bs)))) (fold_byte b)
@@ -89,20 +97,24 @@ tail_at (device nodes count) fields = tail_of (behind count fields)
 tail_at modelling fields = tail_of (behind 3 fields)
 tail_at _ fields = []
 
+-- the first of some names, or the given one
 abbrev pub first_or : List ℕ → List (List ℕ) → List ℕ
 first_or d [] = d
 first_or d (x ∷ xs) = x
 
+-- the last of some names
 abbrev pub last_name : List (List ℕ) → List ℕ
 last_name [] = []
 last_name (x ∷ []) = x
 last_name (x ∷ y ∷ ys) = last_name (y ∷ ys)
 
+-- all but the last
 abbrev pub but_last : {A : Type 0} → List A → List A
 but_last [] = []
 but_last (x ∷ []) = []
 but_last (x ∷ y ∷ ys) = x ∷ but_last (y ∷ ys)
 
+-- the first, if there is one
 abbrev pub front : {A : Type 0} → List A → Option A
 front [] = None
 front (x ∷ xs) = Some x
@@ -118,35 +130,43 @@ card_by globals names tail text = global names
 card_by ending names tail text = ended
 card_by _ names tail text = passed (trim_end is_blank text)
 
+-- the fields of a text, folded
 abbrev pub all_fields : List ℕ → List (List ℕ)
 all_fields text = map (λ (p : Piece). folded p.bytes) (fields_of text)
 
+-- the card that a text would be, refused or not
 abbrev pub card_of : List ℕ → Card
 card_of text = card_by (kind_of text) (names_of (kind_of text) (all_fields text)) (tail_at (kind_of text) (fields_of text)) text
 
 -- ---- refusals
 
+-- the first refusal among some
 abbrev pub first_some : List (Option Fault) → Option Fault
 first_some [] = None
 first_some (None ∷ os) = first_some os
 first_some (Some f ∷ os) = Some f
 
+-- a refusal, where a test is met
 abbrev pub when : Bool → Fault → Option Fault
 when test f = if test then Some f else None
 
+-- the first byte begins no card
 abbrev pub is_unknown : Kind → Bool
 is_unknown unknown = true
 is_unknown _ = false
 
+-- the first field is `.control`
 abbrev pub is_control : Kind → Bool
 is_control control = true
 is_control _ = false
 
+-- an X card or a `.subckt`
 abbrev pub has_nodes : Kind → Bool
 has_nodes caller = true
 has_nodes opening = true
 has_nodes _ = false
 
+-- the first byte of a text, 0 where there is none
 abbrev pub first_byte : List ℕ → ℕ
 first_byte [] = 0
 first_byte (b ∷ bs) = b
@@ -159,6 +179,7 @@ no_card_by l kind fields = first_some
     ∷ when (nat_lt (length fields) (needs kind)) (short_card l.line (length fields) (needs kind))
     ∷ when (is_control kind) (control_block l.line) ∷ [])
 
+-- the same of a line
 abbrev pub no_card : Line → Option Fault
 no_card l = no_card_by l (kind_of l.text) (all_fields l.text)
 
@@ -166,12 +187,15 @@ no_card l = no_card_by l (kind_of l.text) (all_fields l.text)
 abbrev pub has_parameters : Line → Option Fault
 has_parameters l = when (has_nodes (kind_of l.text) && list_any (λ b. b == 61) l.text) (parameters l.line)
 
+-- a tail is too long
 abbrev pub tail_fault : ℕ → List ℕ → Option Fault
 tail_fault line tail = when (nat_lt TAIL (length tail)) (long_tail line (length tail))
 
+-- the tail of a line is too long
 abbrev pub has_long_tail : Line → Option Fault
 has_long_tail l = tail_fault l.line (tail_at (kind_of l.text) (fields_of l.text))
 
+-- what is given, unless it is refused
 abbrev pub or_else : {A : Type 0} → Option Fault → A → Result A Fault
 or_else None x = Ok x
 or_else (Some f) x = Err f
@@ -182,10 +206,12 @@ read_card l = or_else (first_some (no_card l ∷ has_parameters l ∷ has_long_t
 
 -- ---- printing
 
+-- a tail behind a space, if it is not empty
 abbrev pub spaced : List ℕ → List ℕ
 spaced [] = []
 spaced (b ∷ tail) = 32 ∷ b ∷ tail
 
+-- fields with one space between each two, and a tail behind a space
 abbrev pub with_tail : List (List ℕ) → List ℕ → List ℕ
 with_tail fields tail = join_with_byte 32 fields ++ spaced tail
 

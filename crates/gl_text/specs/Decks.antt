@@ -4,6 +4,7 @@ use Rattle.std.specs.List.{list_any}
 use Rattle.gl_text.specs.LogicalLines.{LINE, Fault, long_line, nested_subckt, loose_ends, wrong_ends, open_subckt, local_card, duplicate_name, duplicate_port, zero_port, unknown_subckt, wrong_node_count, recursive, same_text, title_of, after_title, Line, logical_lines}
 use Rattle.gl_text.specs.Cards.{Device, Call, Model, Head, Card, dev, call, model, subckt, ends, global, ended, passed, first_some, when, or_else, no_card, has_parameters, has_long_tail, card_of, printed}
 
+-- what follows an accepted value; the first refusal stays
 infixl 10 ◌>>=◌
 abbrev pub ◌>>=◌ : {A B : Type 0} → Result A Fault → (A → Result B Fault) → Result B Fault
 (Ok x) >>= f = f x
@@ -14,11 +15,13 @@ pub data Body : Type 0 where
   dev_at : ℕ → Device → Body
   call_at : ℕ → Call → Body
 
+-- a subcircuit: the line of its `.subckt`, its name and ports, its cards
 pub record Sub : Type 0 where
   pub line : ℕ
   pub head : Head
   pub cards : List Body
 
+-- a deck: each part in the order of its cards
 pub record Deck : Type 0 where
   pub title : List ℕ
   pub globals : List (List ℕ)
@@ -32,14 +35,17 @@ pub record Scope : Type 0 where
   pub line : ℕ
   pub name : List ℕ
 
+-- a card with its line and the scope that it stands in
 pub record Placed : Type 0 where
   pub scope : Scope
   pub line : ℕ
   pub card : Card
 
+-- the scope outside subcircuits
 abbrev pub top_scope : Scope
 top_scope = record { line = 0; name = [] }
 
+-- a scope is a subcircuit's
 abbrev pub is_inside : Scope → Bool
 is_inside s = nat_lt 0 s.line
 
@@ -49,14 +55,17 @@ scope_after s line (subckt h) = record { line = line; name = h.name }
 scope_after s line (ends name) = top_scope
 scope_after s line _ = s
 
+-- the scope behind cards
 abbrev pub scope_behind : List Placed → Scope
 scope_behind cards = fold (λ s (p : Placed). scope_after s p.line p.card) top_scope cards
 
 -- ---- refusals of a card behind others
 
+-- a name is among names
 abbrev pub is_in : List ℕ → List (List ℕ) → Bool
 is_in name names = list_any (same_text name) names
 
+-- a `.subckt` inside a subcircuit
 abbrev pub nested : Placed → Option Fault
 nested p = of p.card where
   of : Card → Option Fault
@@ -71,6 +80,7 @@ bad_ends p = of p.card where
   of (ends (Some name)) = first_some (when (not (is_inside p.scope)) (loose_ends p.line) ∷ when (not (same_text name p.scope.name)) (wrong_ends p.line) ∷ [])
   of _ = None
 
+-- a card that may stand at the top alone
 abbrev pub is_of_top : Card → Bool
 is_of_top (model m) = true
 is_of_top (global names) = true
@@ -83,6 +93,7 @@ pub data Named : Type 0 where
   of_model of_sub : List ℕ → Named
   nothing : Named
 
+-- what a placed card names
 abbrev pub named : Placed → Named
 named p = of p.card where
   of : Card → Named
@@ -92,19 +103,23 @@ named p = of p.card where
   of (subckt h) = of_sub h.name
   of _ = nothing
 
+-- two cards name the same
 abbrev pub same_named : Named → Named → Bool
 same_named (in_scope s m) (in_scope t n) = (s == t) && same_text m n
 same_named (of_model m) (of_model n) = same_text m n
 same_named (of_sub m) (of_sub n) = same_text m n
 same_named _ _ = false
 
+-- an earlier card names the same
 abbrev pub duplicate : List Placed → Placed → Option Fault
 duplicate before p = option_map (λ (q : Placed). duplicate_name p.line q.line) (find (λ (q : Placed). same_named (named p) (named q)) before)
 
+-- a name stands twice among names
 abbrev pub has_twice : List (List ℕ) → Bool
 has_twice [] = false
 has_twice (n ∷ ns) = is_in n ns || has_twice ns
 
+-- the ports, where a card is a `.subckt`
 abbrev pub ports_of : Card → List (List ℕ)
 ports_of (subckt h) = h.ports
 ports_of _ = []
@@ -127,6 +142,7 @@ placed_from before (Ok l ∷ ls) = place before l >>= λ p. placed_from (before 
 
 -- ---- the deck of cards
 
+-- a device or an X card with its line, where a card is one
 abbrev pub body_of : Placed → Option Body
 body_of p = of p.card where
   of : Card → Option Body
@@ -138,24 +154,28 @@ body_of p = of p.card where
 abbrev pub bodies : ℕ → List Placed → List Body
 bodies line cards = filter_map (λ (p : Placed). if p.scope.line == line then body_of p else None) cards
 
+-- a subcircuit with its cards, where a card is its `.subckt`
 abbrev pub sub_of : List Placed → Placed → Option Sub
 sub_of cards p = of p.card where
   of : Card → Option Sub
   of (subckt h) = Some (record { line = p.line; head = h; cards = bodies p.line cards })
   of _ = None
 
+-- the model, where a card is one
 abbrev pub model_of : Placed → Option Model
 model_of p = of p.card where
   of : Card → Option Model
   of (model m) = Some m
   of _ = None
 
+-- the text, where a card is a passed one
 abbrev pub passed_of : Placed → Option (List ℕ)
 passed_of p = of p.card where
   of : Card → Option (List ℕ)
   of (passed text) = Some text
   of _ = None
 
+-- the names, where a card is `.global`
 abbrev pub globals_of : Placed → List (List ℕ)
 globals_of p = of p.card where
   of : Card → List (List ℕ)
@@ -167,6 +187,7 @@ abbrev pub once : List (List ℕ) → List (List ℕ)
 once [] = []
 once (n ∷ ns) = n ∷ filter (λ m. not (same_text n m)) (once ns)
 
+-- the deck of a title and placed cards
 abbrev pub deck_by : List ℕ → List Placed → Deck
 deck_by title cards = record {
   title = title;
@@ -179,9 +200,11 @@ deck_by title cards = record {
 
 -- ---- refusals 10 and 17 to 19
 
+-- a subcircuit is open behind all cards
 abbrev pub left_open : List Placed → Option Fault
 left_open cards = let s = scope_behind cards in when (is_inside s) (open_subckt s.line)
 
+-- the subcircuit of a name
 abbrev pub find_sub : List Sub → List ℕ → Option Sub
 find_sub subs name = find (λ (s : Sub). same_text s.head.name name) subs
 
@@ -195,6 +218,7 @@ callees (call_at line c ∷ cards) = c.sub ∷ callees cards
 abbrev pub step : List Sub → List Sub → List Sub
 step subs found = filter (λ (s : Sub). is_in s.head.name (map (λ (t : Sub). t.head.name) found ++ flat_map (λ (t : Sub). callees t.cards) found)) subs
 
+-- the subcircuits that some reach by at most so many calls
 abbrev pub steps : List Sub → ℕ → List Sub → List Sub
 steps subs zero found = found
 steps subs (suc n) found = steps subs n (step subs found)
@@ -203,6 +227,7 @@ steps subs (suc n) found = steps subs n (step subs found)
 abbrev pub reaches : List Sub → Sub → List ℕ → Bool
 reaches subs t name = list_any (λ (u : Sub). same_text u.head.name name) (steps subs (length subs) (t ∷ []))
 
+-- why an X card's call is refused: no such subcircuit, another number of ports, a call that leads back
 abbrev pub call_fault : List Sub → Placed → Option Fault
 call_fault subs p = of p.card where
   known : Call → Option Sub → Option Fault
@@ -216,9 +241,11 @@ call_fault subs p = of p.card where
 
 -- ---- the whole file
 
+-- the title is too long
 abbrev pub title_fault : Bool → List ℕ → Option Fault
 title_fault has_title bytes = when (has_title && nat_lt LINE (length (title_of bytes))) (long_line 1 (length (title_of bytes)))
 
+-- the logical lines of a file with or without a title
 abbrev pub file_lines : Bool → List ℕ → List (Result Line Fault)
 file_lines has_title bytes = if has_title then logical_lines 2 (after_title bytes) else logical_lines 1 bytes
 
@@ -232,16 +259,20 @@ read_deck has_title bytes =
 
 -- ---- printing
 
+-- the line of a card, with its newline
 abbrev pub line_of : Card → List ℕ
 line_of card = printed card ++ 10 ∷ []
 
+-- the line of a device or an X card
 abbrev pub body_line : Body → List ℕ
 body_line (dev_at line d) = line_of (dev d)
 body_line (call_at line c) = line_of (call c)
 
+-- the lines of a subcircuit
 abbrev pub sub_text : Sub → List ℕ
 sub_text s = line_of (subckt s.head) ++ flat_map body_line s.cards ++ line_of (ends (Some s.head.name))
 
+-- the text of a deck: title, globals, models, subcircuits, top cards, passed cards, `.end`
 abbrev pub deck_text : Deck → List ℕ
 deck_text d = d.title ++ 10 ∷ flat_map (λ n. line_of (global (n ∷ []))) d.globals ++ flat_map (λ m. line_of (model m)) d.models
     ++ flat_map sub_text d.subs ++ flat_map body_line d.top ++ flat_map (λ t. line_of (passed t)) d.passed ++ line_of ended

@@ -5,15 +5,19 @@ use Rattle.gl_text.specs.LogicalLines.{NAME, Fault, name_clash, long_flat_name, 
 use Rattle.gl_text.specs.Cards.{Device, Call, Model, Head, dev, model, subckt, ends, global, passed, ended, first_some, when, or_else, first_byte}
 use Rattle.gl_text.specs.Decks.{◌>>=◌, Body, dev_at, call_at, Sub, Deck, read_deck, is_in, find_sub, callees, line_of}
 
+-- how many X cards may stand in a chain
 abbrev pub DEPTH : ℕ
 DEPTH = 32
 
+-- how many device and X cards may be expanded
 abbrev pub CARDS : ℕ
 CARDS = 400000
 
+-- how many flat devices there may be
 abbrev pub DEVICES : ℕ
 DEVICES = 200000
 
+-- how many bytes the text of a flat deck may have
 abbrev pub TEXT : ℕ
 TEXT = 67108864
 
@@ -30,6 +34,7 @@ pub record FlatDevice : Type 0 where
   pub card : Device
   pub nets : List Net
 
+-- a net of the top
 abbrev pub top_net : List ℕ → Net
 top_net name = record { path = []; name = name }
 
@@ -42,9 +47,11 @@ pub record Place : Type 0 where
   pub path : List (List ℕ)
   pub ports : List (List ℕ × Net)
 
+-- the actual net of a port
 abbrev pub actual : List (List ℕ × Net) → List ℕ → Option Net
 actual ports name = option_map (λ p. p.1) (find (λ p. same_text p.0 name) ports)
 
+-- where the top's cards stand
 abbrev pub top_place : Place
 top_place = record { path = []; ports = [] }
 
@@ -71,12 +78,15 @@ flat_devices rails subs (suc depth) place cards = flat_map (devices_of rails sub
 
 -- ---- flat names
 
+-- the names of the X cards on the way, each with a dot behind it
 abbrev pub path_text : List (List ℕ) → List ℕ
 path_text path = flat_map (λ x. x ++ codes ".") path
 
+-- the flat name of a net
 abbrev pub net_name : Net → List ℕ
 net_name n = path_text n.path ++ n.name
 
+-- the flat name of a device: its letter, the way and its name; at the top its name alone
 abbrev pub device_name : FlatDevice → List ℕ
 device_name d = below d.path where
   below : List (List ℕ) → List ℕ
@@ -85,6 +95,7 @@ device_name d = below d.path where
 
 -- ---- the flat deck and its text
 
+-- a flat deck
 pub record Flat : Type 0 where
   pub title : List ℕ
   pub rails : List (List ℕ)
@@ -93,13 +104,16 @@ pub record Flat : Type 0 where
   pub devices : List FlatDevice
   pub passed : List (List ℕ)
 
+-- a flat device as a card
 abbrev pub flat_card : FlatDevice → Device
 flat_card d = record { name = device_name d; nodes = map net_name d.nets; model = d.card.model; tail = d.card.tail }
 
+-- a text inside the top's `.subckt` and `.ends`, if there is a top
 abbrev pub around : Option Head → List ℕ → List ℕ
 around None text = text
 around (Some h) text = line_of (subckt h) ++ text ++ line_of (ends (Some h.name))
 
+-- the text of a flat deck
 abbrev pub flat_text : Flat → List ℕ
 flat_text f = f.title ++ 10 ∷ flat_map (λ n. line_of (global (n ∷ []))) f.rails ++ flat_map (λ m. line_of (model m)) f.models
     ++ around f.top (flat_map (λ d. line_of (dev (flat_card d))) f.devices) ++ flat_map (λ t. line_of (passed t)) f.passed ++ line_of ended
@@ -116,12 +130,15 @@ abbrev pub sizes : (Body → ℕ) → List Sub → ℕ → List (List ℕ × ℕ
 sizes own subs zero = []
 sizes own subs (suc depth) = let below = sizes own subs depth in map (λ (s : Sub). (s.head.name, sum_by (size_of own below) s.cards)) subs
 
+-- what cards count when they are expanded
 abbrev pub count : (Body → ℕ) → List Sub → List Body → ℕ
 count own subs cards = sum_by (size_of own (sizes own subs DEPTH)) cards
 
+-- each card counts
 abbrev pub one : Body → ℕ
 one card = 1
 
+-- each device counts
 abbrev pub one_device : Body → ℕ
 one_device (dev_at line d) = 1
 one_device (call_at line c) = 0
@@ -136,13 +153,16 @@ pub data Bearer : Type 0 where
   device : List ℕ → Bearer
   net : Net → Bearer
 
+-- what has a flat name in a device: itself, and its nets in order
 abbrev pub bearers : FlatDevice → List Bearer
 bearers d = device (device_name d) ∷ map net d.nets
 
+-- the flat name
 abbrev pub bearer_name : Bearer → List ℕ
 bearer_name (device name) = name
 bearer_name (net n) = net_name n
 
+-- two ways are the same
 abbrev pub same_path : List (List ℕ) → List (List ℕ) → Bool
 same_path [] [] = true
 same_path (x ∷ xs) (y ∷ ys) = same_text x y && same_path xs ys
@@ -154,12 +174,14 @@ clash (device m) (device n) = same_text m n
 clash (net m) (net n) = same_text (net_name m) (net_name n) && not (same_path m.path n.path && same_text m.name n.name)
 clash _ _ = false
 
+-- the first bearer of a name that an earlier one has
 abbrev pub first_clash : List Bearer → List Bearer → Option Fault
 first_clash before [] = None
 first_clash before (b ∷ bs) = first_some (when (list_any (clash b) before) (name_clash (bearer_name b)) ∷ first_clash (before ++ b ∷ []) bs ∷ [])
 
 -- ---- flattening
 
+-- the line of a device or an X card
 abbrev pub line_of_body : Body → ℕ
 line_of_body (dev_at line d) = line
 line_of_body (call_at line c) = line
@@ -173,10 +195,12 @@ chosen deck (Some name) = found (find_sub deck.subs name) deck.top where
   found (Some s) [] = Ok (Some s.head, s.cards)
   found (Some s) (card ∷ cards) = Err (top_devices (line_of_body card))
 
+-- the ports of the top, if there is one
 abbrev pub top_ports : Option Head → List (List ℕ)
 top_ports None = []
 top_ports (Some h) = h.ports
 
+-- there is none
 abbrev pub is_none_left : List Sub → Bool
 is_none_left [] = true
 is_none_left (s ∷ ss) = false

@@ -62,6 +62,7 @@ abbrev pub unless_beyond : {A : Type 0} → Option ℕ → A → Result A Cause
 unless_beyond None x = Ok x
 unless_beyond (Some line) x = Err (not_yet line)
 
+-- the same of a deck that was read or refused
 abbrev pub taken : {A : Type 0} → (Deck → Option ℕ) → (Deck → A) → Result Deck Fault → Result A Cause
 taken beyond of (Ok deck) = unless_beyond (beyond deck) (of deck)
 taken beyond of (Err fault) = Err (refused fault)
@@ -96,6 +97,7 @@ abbrev pub missing : ℕ → List Sub → Option ℕ
 missing line [] = Some line
 missing line (cell ∷ others) = if is_whole_cell cell.head (devices_in cell.cards) then None else Some cell.line
 
+-- the first of two lines, if there is one, else the second
 abbrev pub first_of : Option ℕ → Option ℕ → Option ℕ
 first_of None second = second
 first_of (Some first) second = Some first
@@ -109,6 +111,7 @@ abbrev pub head_in : List Sub → Head
 head_in [] = record { name = []; ports = [] }
 head_in (cell ∷ others) = cell.head
 
+-- the cards of the first subcircuit
 abbrev pub cards_in : List Sub → List Body
 cards_in [] = []
 cards_in (cell ∷ others) = cell.cards

@@ -4,6 +4,7 @@ use Rattle.std.specs.List.{AllByRecursion}
 use Rattle.gl_text.specs.LogicalLines.{NAME, TAIL, is_separator, folded, fold_byte, tail_of}
 use Rattle.gl_text.specs.Cards.{Kind, caller, device, kinds, by_byte}
 
+-- a name as it is read: not empty, without separators, folded, not too long
 pub record IsName (bytes : List ℕ) : Type 0 where
   pub some : nat_lt 0 (length bytes) ≡ true
   pub plain : AllByRecursion (λ b. is_separator b ≡ false) bytes
