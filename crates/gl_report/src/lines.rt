@@ -8,7 +8,7 @@ use crate::words::{put, put_number};
 use gl_legal::Instance;
 use gl_match::Memory;
 
-// Appends the line of the cell: how many ports it has, and how many instances.
+/// Appends the line of the cell: how many ports it has, and how many instances.
 pub fn put_cell(
     out: &mut Vec<u8>,
     name: &[u8],
@@ -28,7 +28,7 @@ pub fn put_cell(
     put(out, b"\n")
 }
 
-// Appends the line of the instance with this number.
+/// Appends the line of the instance with this number.
 pub fn put_instance(
     out: &mut Vec<u8>,
     names: &Names<'_>,

@@ -9,7 +9,7 @@ use gl_card::DevCard;
 use gl_line::Name;
 use gl_match::{Memory, NetId, Spot};
 
-// Appends a part for each port, with the net of the binding.
+/// Appends a part for each port, with the net of the binding.
 pub fn put_ports(
     out: &mut Vec<u8>,
     ports: &[Name],
@@ -28,7 +28,7 @@ pub fn put_ports(
     Ok(())
 }
 
-// Appends a part for each device of the cell, with its image.
+/// Appends a part for each device of the cell, with its image.
 pub fn put_images(
     out: &mut Vec<u8>,
     cell_devices: &[DevCard],

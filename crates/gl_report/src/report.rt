@@ -23,7 +23,7 @@ pub fn print(names: &Names<'_>, list: &CellList, out: &mut Vec<u8>) -> Result<()
     printed
 }
 
-// Appends the report. What stood before stays, also where no memory is found.
+/// Appends the report. What stood before stays, also where no memory is found.
 fn put_report(out: &mut Vec<u8>, names: &Names<'_>, list: &CellList) -> Result<(), Memory>
     requires all_named { IsReportable names.now list.now }
     ensures ok { OnOk result (out.new.items ≡ out.old.items ++ early_report names.now list.now) }
@@ -40,7 +40,7 @@ fn put_report(out: &mut Vec<u8>, names: &Names<'_>, list: &CellList) -> Result<(
     put(out, b"end\n")
 }
 
-// Appends the lines of the instances, numbered from 1.
+/// Appends the lines of the instances, numbered from 1.
 fn put_instances(out: &mut Vec<u8>, names: &Names<'_>, items: &[Instance]) -> Result<(), Memory>
     requires all_named { IsReportable names.now items.now }
     ensures ok { OnOk result (out.new.items

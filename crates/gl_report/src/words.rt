@@ -5,7 +5,7 @@ ghost use Rattle.gl_base.specs.Reports.{part};
 use gl_match::Memory;
 use itoa::Buffer;
 
-// Appends bytes. What stood before stays, also where no memory is found.
+/// Appends bytes. What stood before stays, also where no memory is found.
 pub fn put(out: &mut Vec<u8>, bytes: &[u8]) -> Result<(), Memory>
     ensures ok { OnOk result (out.new.items ≡ out.old.items ++ bytes.now) }
     ensures front { take (length out.old.items) out.new.items ≡ out.old.items }
@@ -14,7 +14,7 @@ pub fn put(out: &mut Vec<u8>, bytes: &[u8]) -> Result<(), Memory>
     Ok(())
 }
 
-// Appends a number in decimal.
+/// Appends a number in decimal.
 pub fn put_number(out: &mut Vec<u8>, number: usize) -> Result<(), Memory>
     ensures ok { OnOk result (out.new.items ≡ out.old.items ++ decimal number) }
     ensures front { take (length out.old.items) out.new.items ≡ out.old.items }
@@ -22,7 +22,7 @@ pub fn put_number(out: &mut Vec<u8>, number: usize) -> Result<(), Memory>
     put(out, Buffer::new().format(number).as_bytes())
 }
 
-// Appends a blank and `NAME=IMAGE`.
+/// Appends a blank and `NAME=IMAGE`.
 pub fn put_part(out: &mut Vec<u8>, name: &[u8], image: &[u8]) -> Result<(), Memory>
     ensures ok { OnOk result (out.new.items ≡ out.old.items ++ 32 ∷ part (name.now, image.now)) }
     ensures front { take (length out.old.items) out.new.items ≡ out.old.items }
