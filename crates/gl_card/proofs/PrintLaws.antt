@@ -1,8 +1,8 @@
 -- Words joined by spaces are the first word and each other word behind a space.
-use Rattle.std.proofs.Common.{◌≡◌, List, ℕ, [], ◌∷◌, ◌++◌, refl, sym, ap, ◌∙◌, append_assoc}
+use Rattle.std.proofs.Common.{◌≡◌, ◌≤◌, List, ℕ, [], ◌∷◌, ◌++◌, length, take, refl, sym, ap, ◌∙◌, append_assoc, arith, length-append}
 use Rattle.std.specs.Prelude.{Some, None, option_to_list}
 use Rattle.std.specs.List.{join_with_byte}
-use Rattle.std.proofs.lemmas.List.{append-nil}
+use Rattle.std.proofs.lemmas.List.{append-nil, take-take, take_at}
 use Rattle.gl_text.specs.Cards.{Device, Call, dev, call, printed, spaced}
 use Rattle.std.specs.Option.{option_copied}
 use Rattle.gl_card.specs.declared.line.Parts.{Parts}
@@ -43,3 +43,14 @@ call_line p x one first many last tail =
     ∙ ap (λ m. join_with_byte 32 (x.name ∷ x.nodes ++ option_to_list m) ++ spaced p.tail.now) last
     ∙ ap (λ t. join_with_byte 32 (x.name ∷ x.nodes ++ x.sub ∷ []) ++ spaced t) tail
     ∙ append-nil (join_with_byte 32 (x.name ∷ x.nodes ++ x.sub ∷ []))
+
+-- what was appended to what began with the text before still begins with it
+pub front_stays : (out middle after more : List ℕ) → middle ≡ out ++ more → take (length middle) after ≡ middle → take (length out) after ≡ out
+front_stays out middle after more is stays =
+    let short : length out ≤ length middle = omega (arith, ap length is, length-append out more) in
+    let cut : take (length out) (take (length middle) after) ≡ take (length out) after = take-take (length out) (length middle) after short in
+    sym cut ∙ (ap (take (length out)) (stays ∙ is) ∙ take_at out more (length out) refl)
+
+-- a text begins with what it was appended to
+pub front_of : (out after more : List ℕ) → after ≡ out ++ more → take (length out) after ≡ out
+front_of out after more is = ap (take (length out)) is ∙ take_at out more (length out) refl

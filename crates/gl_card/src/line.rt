@@ -1,10 +1,10 @@
-ghost use Rattle.std.specs.Prelude.{◌≡◌, ◌++◌, [], None, IfOk, OnOk, option_to_list};
+ghost use Rattle.std.specs.Prelude.{◌≡◌, ◌++◌, [], None, OnOk, option_to_list, is_ok, length, take, if◌then◌else◌};
 ghost use Rattle.std.specs.Option.{option_copied};
 ghost use Rattle.gl_text.specs.Cards.{spaced};
 ghost use Rattle.gl_card.specs.Lines.{line_of, spaced_all};
 
-use gl_line::Name;
-use std::alloc::{AllocError, Global};
+use gl_line::{Memory, Name};
+use std::alloc::AllocError;
 
 /// The parts of a card's line, in order, with one space between each two.
 #[derive(Clone, Copy)]
@@ -36,6 +36,7 @@ impl<'a> Parts<'a> {
 /// A space and a word, if there is a word.
 fn put_word(line: &mut Vec<u8>, word: Option<&Name>) -> Result<(), AllocError>
     ensures put { OnOk result (line.new.items ≡ line.old.items ++ spaced_all (option_to_list (option_copied word.entry))) }
+    ensures front { take (length line.old.items) line.new.items ≡ line.old.items }
 {
     if let Some(word) = word {
         line.push(b' ')?;
@@ -47,6 +48,7 @@ fn put_word(line: &mut Vec<u8>, word: Option<&Name>) -> Result<(), AllocError>
 /// A space and a word for each of the words.
 fn put_words(line: &mut Vec<u8>, words: &[Name]) -> Result<(), AllocError>
     ensures put { OnOk result (line.new.items ≡ line.old.items ++ spaced_all words.now) }
+    ensures front { take (length line.old.items) line.new.items ≡ line.old.items }
 {
     for word in words {
         put_word(line, Some(word))?;
@@ -57,6 +59,7 @@ fn put_words(line: &mut Vec<u8>, words: &[Name]) -> Result<(), AllocError>
 /// A space and the tail, if it is not empty.
 fn put_tail(line: &mut Vec<u8>, tail: &[u8]) -> Result<(), AllocError>
     ensures put { OnOk result (line.new.items ≡ line.old.items ++ spaced tail.now) }
+    ensures front { take (length line.old.items) line.new.items ≡ line.old.items }
 {
     if !tail.is_empty() {
         line.push(b' ')?;
@@ -66,13 +69,26 @@ fn put_tail(line: &mut Vec<u8>, tail: &[u8]) -> Result<(), AllocError>
 }
 
 /// The line with these parts.
-pub fn line_with(alloc: Global, parts: &Parts<'_>) -> Result<Vec<u8>, AllocError>
-    ensures line { IfOk result (λ line. line.items ≡ line_of parts.now) }
+fn put_line(line: &mut Vec<u8>, parts: &Parts<'_>) -> Result<(), AllocError>
+    ensures put { OnOk result (line.new.items ≡ line.old.items ++ line_of parts.now) }
+    ensures front { take (length line.old.items) line.new.items ≡ line.old.items }
 {
-    let mut line = Vec::from_slice(alloc, parts.first)?;
-    put_word(&mut line, parts.one)?;
-    put_words(&mut line, parts.many)?;
-    put_word(&mut line, parts.last)?;
-    put_tail(&mut line, parts.tail)?;
-    Ok(line)
+    line.extend_from_slice(parts.first)?;
+    put_word(line, parts.one)?;
+    put_words(line, parts.many)?;
+    put_word(line, parts.last)?;
+    put_tail(line, parts.tail)?;
+    Ok(())
+}
+
+/// Appends the line with these parts, or nothing.
+pub fn print_line(out: &mut Vec<u8>, parts: &Parts<'_>) -> Result<(), Memory>
+    ensures printed { out.new.items ≡ (if is_ok result then out.old.items ++ line_of parts.now else out.old.items) }
+{
+    let start = out.len();
+    if put_line(out, parts).is_err() {
+        out.truncate(start);
+        return Err(Memory);
+    }
+    Ok(())
 }

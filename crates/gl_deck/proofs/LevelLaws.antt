@@ -1,33 +1,75 @@
--- Numbers by which calls go down.
-use Rattle.std.proofs.Common.{◌≡◌, ◌<◌, ℕ, List, [], ◌∷◌, Bool, true, false, Option, Some, None, IfSome, sym, subst, inl, inr}
+-- Numbers by which no call goes up.
+use Rattle.std.proofs.Common.{◌≡◌, ◌<◌, ◌≤◌, ◌-◌, ℕ, List, [], ◌∷◌, length, take, drop, get_or, Bool, true, false, Option, Some, None, IfSome, ap, sym, subst, arith, inl, inr}
 use Rattle.std.specs.Bool.{OnTrue}
 use Rattle.std.specs.List.{AllByRecursion, IsAmong}
-use Rattle.gl_text.specs.Levels.{Down}
-use Rattle.gl_text.specs.Decks.{Sub, Body, callees, reaches}
-use Rattle.gl_text.proofs.LevelLaws.{not_reached}
-use Rattle.gl_deck.specs.Levels.{AreLevels, level_in}
-use Rattle.gl_deck.proofs.Members.{In, among_in}
+use Rattle.std.proofs.lemmas.Bool.{cases_Bool}
+use Rattle.std.proofs.lemmas.List.{take_all}
+use Rattle.gl_text.specs.LogicalLines.{same_text}
+use Rattle.gl_text.specs.Decks.{Sub, Body, callees, reaches, steps}
+use Rattle.gl_deck.specs.Levels.{AreLevels, AtMost, NoneUp, level_in}
+use Rattle.gl_deck.proofs.CallLaws.{exact}
+use Rattle.gl_deck.proofs.Members.{In, among_in, from_any}
+use Rattle.gl_deck.proofs.ReachLaws.{all_found}
 
-abbrev Below : (List ℕ → ℕ) → ℕ → List Body → Type 0
-Below level m cards = AllByRecursion (λ n. level n < m) (callees cards)
+one_not_up : (b : Bool) (level : List ℕ → ℕ) (s : Sub) → OnTrue b (AtMost level (level s.head.name) s.cards) → OnTrue b (NoneUp level (s ∷ []))
+one_not_up true level s h = (h, tt)
+one_not_up false level s h = h
 
-one_down : (b : Bool) (level : List ℕ → ℕ) (s : Sub) → OnTrue b (Below level (level s.head.name) s.cards) → OnTrue b (Down level (s ∷ []))
-one_down true level s h = (h, tt)
-one_down false level s h = h
+pub not_up_by : (b : Bool) (level : List ℕ → ℕ) (s : Sub) (m : ℕ) (cards : List Body) → m ≡ level s.head.name → cards ≡ s.cards → OnTrue b (AtMost level m cards) → OnTrue b (NoneUp level (s ∷ []))
+not_up_by b level s m cards e f h =
+    one_not_up b level s (subst (λ (k : ℕ). OnTrue b (AtMost level k s.cards)) e (subst (λ (cs : List Body). OnTrue b (AtMost level m cs)) f h))
 
-pub goes_down_by : (b : Bool) (level : List ℕ → ℕ) (s : Sub) (m : ℕ) (cards : List Body) → m ≡ level s.head.name → cards ≡ s.cards → OnTrue b (Below level m cards) → OnTrue b (Down level (s ∷ []))
-goes_down_by b level s m cards e f h =
-    one_down b level s (subst (λ (k : ℕ). OnTrue b (Below level k s.cards)) e (subst (λ (cs : List Body). OnTrue b (Below level m cs)) f h))
+all_in : {A : Type 0} (P : A → Type 0) (x : A) (xs : List A) → In x xs → AllByRecursion P xs → P x
+all_in P x [] i h = absurd i
+all_in P x (y ∷ ys) (inl e) h = subst P (sym e) h.0
+all_in P x (y ∷ ys) (inr i) h = all_in P x ys i h.1
 
-down_by : (level : List ℕ → ℕ) (t : Sub) (subs : List Sub) → In t subs → Down level subs → Down level (t ∷ [])
-down_by level t [] i h = absurd i
-down_by level t (s ∷ subs) (inl e) h = (subst (λ (u : Sub). Below level (level u.head.name) u.cards) (sym e) h.0, tt)
-down_by level t (s ∷ subs) (inr i) h = down_by level t subs i h.1
+-- a subcircuit of at most a number
+abbrev Low : (List ℕ → ℕ) → List Sub → ℕ → Sub → Type 0
+Low level subs most u = In u subs × (level u.head.name ≤ most)
 
--- where calls go down, a subcircuit does not lead up
+low_same : (a b c : ℕ) → a ≡ b → b ≤ c → a ≤ c
+low_same a b c e h = omega arith
+
+low_less : (a b c : ℕ) → a ≤ b → b ≤ c → a ≤ c
+low_less a b c e h = omega arith
+
+-- what a subcircuit leads to has at most its number
+found_low : (level : List ℕ → ℕ) (subs : List Sub) (t : Sub) → NoneUp level subs → In t subs → (u : Sub) → In u (steps subs (length subs) (t ∷ [])) → Low level subs (level t.head.name) u
+found_low level subs t none i =
+    let most = level t.head.name in
+    all_found subs (Low level subs most) (length subs) (t ∷ [])
+    (λ u s m j e. (j, low_same (level s.head.name) (level u.head.name) most (ap level e) m.1))
+    (λ u s m j called.
+    let own : AtMost level (level u.head.name) u.cards = all_in (λ (v : Sub). AtMost level (level v.head.name) v.cards) u subs m.0 none in
+    let low : level s.head.name ≤ level u.head.name = all_in (λ n. level n ≤ level u.head.name) s.head.name (callees u.cards) called own in
+    (j, low_less (level s.head.name) (level u.head.name) most low m.1))
+    (λ u h. subst (λ (v : Sub). Low level subs most v) (sym (only_sub u t h)) (i, omega arith)) where
+      only_sub : (u t : Sub) → In u (t ∷ []) → u ≡ t
+      only_sub u t (inl e) = e
+      only_sub u t (inr h) = absurd h
+
+-- so it does not lead up
 pub not_up : (subs : List Sub) (levels : List ℕ) (t : Sub) (name : List ℕ) → AreLevels subs levels → IsAmong subs t → level_in subs levels t.head.name < level_in subs levels name → reaches subs t name ≡ false
-not_up subs levels t name down among lt = not_reached (level_in subs levels) subs t name down (down_by (level_in subs levels) t subs (among_in t subs among) down) lt
+not_up subs levels t name none among lt = elim (cases_Bool (reaches subs t name)) [
+  | inl e ↦
+      let level = level_in subs levels in
+      let u = from_any (λ (v : Sub). same_text v.head.name name) (steps subs (length subs) (t ∷ [])) e in
+      let low = found_low level subs t none (among_in t subs among) u.0 u.1 in
+      let same : level u.0.head.name ≡ level name = ap level (exact u.0.head.name name u.2) in
+      absurd (too_low (level t.head.name) (level u.0.head.name) (level name) low.1 same lt)
+  | inr e ↦ e
+] where
+  too_low : (a b c : ℕ) → b ≤ a → b ≡ c → a < c → ⊥
+  too_low a b c h e lt = omega arith
 
 pub if_there : {B : Type 0} (P : B → Type 0) (o : Option B) (x : B) → o ≡ Some x → IfSome o P → P x
 if_there P None x e h = absurd cc
 if_there P (Some y) x e h = let f : y ≡ x = cc in subst P f h
+
+-- one caller more
+pub callers_more : (level : List ℕ → ℕ) (rest : List Sub) (s : Sub) (n : ℕ) → 1 ≤ length rest → s ≡ get_or rest 0 s → n ≡ length rest → NoneUp level (s ∷ []) → NoneUp level (take (n - 1) (drop 1 rest)) → NoneUp level rest
+callers_more level [] s n some is e here h = absurd (omega arith)
+callers_more level (u ∷ us) s n some is e here h =
+    let all : take (n - 1) us ≡ us = take_all (n - 1) us (omega arith) in
+    (subst (λ (v : Sub). AtMost level (level v.head.name) v.cards) is here.0, subst (λ (ss : List Sub). NoneUp level ss) all h)

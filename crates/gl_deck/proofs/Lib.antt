@@ -9,6 +9,7 @@ pub mod LevelLaws
 pub mod LoopLaws
 pub mod Members
 pub mod NodeLaws
+pub mod PrintingLaws
 pub mod ReachLaws
 pub mod ReadLaws
 pub mod SubSteps

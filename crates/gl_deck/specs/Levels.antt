@@ -1,8 +1,8 @@
--- Numbers of subcircuits by which their calls go down.
-use Rattle.std.specs.Prelude.{ℕ, List, Option, Some, None, position, slice_index}
+-- Numbers of subcircuits by which no call goes up.
+use Rattle.std.specs.Prelude.{ℕ, ◌≤◌, List, Option, Some, None, position, slice_index}
+use Rattle.std.specs.List.{AllByRecursion}
 use Rattle.gl_text.specs.LogicalLines.{same_text}
-use Rattle.gl_text.specs.Decks.{Sub}
-use Rattle.gl_text.specs.Levels.{Down}
+use Rattle.gl_text.specs.Decks.{Sub, Body, callees}
 use Rattle.gl_deck.specs.Bodies.{names_of}
 
 -- where the subcircuit of a name stands
@@ -17,6 +17,14 @@ level_at levels (Some place) = slice_index levels place
 abbrev pub level_in : List Sub → List ℕ → List ℕ → ℕ
 level_in subs levels name = level_at levels (place_in subs name)
 
--- by these numbers each call of a subcircuit goes down
+-- what these cards call has at most this number
+abbrev pub AtMost : (List ℕ → ℕ) → ℕ → List Body → Type 0
+AtMost level most cards = AllByRecursion (λ n. level n ≤ most) (callees cards)
+
+-- what a subcircuit calls has at most its own number
+abbrev pub NoneUp : (List ℕ → ℕ) → List Sub → Type 0
+NoneUp level subs = AllByRecursion (λ (s : Sub). AtMost level (level s.head.name) s.cards) subs
+
+-- these are such numbers
 abbrev pub AreLevels : List Sub → List ℕ → Type 0
-AreLevels subs levels = Down (level_in subs levels) subs
+AreLevels subs levels = NoneUp (level_in subs levels) subs

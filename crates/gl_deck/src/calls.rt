@@ -97,8 +97,9 @@ fn first_fault(
 }
 
 /// The refusal of the first X card, in the order given, that calls a subcircuit that the file lacks, has another number of
-/// nodes than that has ports, or leads back to the subcircuit that it stands in, in this order. Where no subcircuit leads
-/// back to itself, the time grows with the number of cards.
+/// nodes than that has ports, or leads back to the subcircuit that it stands in, in this order. The time grows with the
+/// number of cards, but for X cards in what a subcircuit that leads back to itself leads to: for each of these all that it
+/// leads to is looked at.
 pub fn first_call_fault(
     alloc: Global,
     subs: &IndexMap<Name, Sub>,

@@ -1,11 +1,8 @@
-ghost use Rattle.std.specs.Prelude.{◌≡◌, ◌<◌, [], ◌∷◌, IfOk, IfSome};
+ghost use Rattle.std.specs.Prelude.{◌≡◌, [], ◌∷◌, IfOk, IfSome};
 ghost use Rattle.std.specs.Bool.{OnTrue};
-ghost use Rattle.std.specs.List.{AllByRecursion};
 ghost use Rattle.indexmap.specs.IndexMap.{keys, values};
-ghost use Rattle.gl_text.specs.Decks.{callees};
-ghost use Rattle.gl_text.specs.Levels.{Down};
 ghost use Rattle.gl_deck.specs.Bodies.{bodies_value, names_of};
-ghost use Rattle.gl_deck.specs.Levels.{AreLevels, level_in, place_in};
+ghost use Rattle.gl_deck.specs.Levels.{AreLevels, AtMost, NoneUp, level_in, place_in};
 
 use crate::{Body, Name, Sub};
 use indexmap::IndexMap;
@@ -39,18 +36,18 @@ fn callee(subs: &IndexMap<Name, Sub>, card: &Body) -> Option<usize> {
 }
 
 /// One more call of the subcircuit at a place.
-fn count(calls: &mut [usize], place: Option<usize>) {
-    if let Some(place) = place {
-        if let Some(calls) = calls.get_mut(place) {
-            *calls = calls.saturating_add(1);
-        }
+fn count(calls: &mut [usize], place: usize) {
+    if let Some(own) = calls.get_mut(place) {
+        *own = own.saturating_add(1);
     }
 }
 
 /// Counts the calls that stand on these cards.
 fn count_cards(calls: &mut [usize], subs: &IndexMap<Name, Sub>, cards: &[Body]) {
     for card in cards {
-        count(calls, callee(subs, card));
+        if let Some(callee) = callee(subs, card) {
+            count(calls, callee);
+        }
     }
 }
 
@@ -76,9 +73,9 @@ fn uncalled(alloc: Global, calls: &[usize]) -> Result<Vec<usize>, AllocError> {
 
 /// One call less of the subcircuit at a place, which is ready once nothing calls it.
 fn release(calls: &mut [usize], ready: &mut Vec<usize>, place: usize) -> Result<(), AllocError> {
-    if let Some(calls) = calls.get_mut(place) {
-        *calls = calls.saturating_sub(1);
-        if *calls == 0 {
+    if let Some(own) = calls.get_mut(place) {
+        *own = own.saturating_sub(1);
+        if *own == 0 {
             ready.push(place)?;
         }
     }
@@ -102,8 +99,8 @@ fn release_calls(
     Ok(())
 }
 
-/// Numbers for the subcircuits by their places: those that call before those that they call, from the number of
-/// subcircuits down to 1. One whose callers have no number has none either, and 0 stands there.
+/// Numbers for the subcircuits by their places, from the number of subcircuits down to 1, each caller before what it calls.
+/// A subcircuit with a caller that gets no such number gets 0, and so does one that leads back to itself.
 fn numbers(alloc: Global, subs: &IndexMap<Name, Sub>) -> Result<Vec<usize>, AllocError> {
     let mut calls = call_counts(alloc, subs)?;
     let mut ready = uncalled(alloc, &calls)?;
@@ -120,25 +117,25 @@ fn numbers(alloc: Global, subs: &IndexMap<Name, Sub>) -> Result<Vec<usize>, Allo
     Ok(levels)
 }
 
-/// What a card calls has a number below this one.
-fn card_goes_down(subs: &IndexMap<Name, Sub>, levels: &[usize], level: usize, card: &Body) -> bool
+/// What a card calls has at most this number.
+fn card_not_up(subs: &IndexMap<Name, Sub>, levels: &[usize], level: usize, card: &Body) -> bool
     requires keyed { keys subs.now ≡ names_of (values subs.now) }
-    ensures down { OnTrue result (AllByRecursion (λ n. level_in (values subs.now) levels.now n < level) (callees (bodies_value (card.now ∷ [])))) }
+    ensures not_up { OnTrue result (AtMost (level_in (values subs.now) levels.now) level (bodies_value (card.now ∷ []))) }
 {
     match card {
         Body::Dev(_, _) => true,
-        Body::Call(_, call) => level_of(subs, levels, call.sub()) < level,
+        Body::Call(_, call) => level_of(subs, levels, call.sub()) <= level,
     }
 }
 
-/// What these cards call has numbers below this one.
-fn cards_go_down(subs: &IndexMap<Name, Sub>, levels: &[usize], level: usize, cards: &[Body]) -> bool
+/// What these cards call has at most this number.
+fn cards_not_up(subs: &IndexMap<Name, Sub>, levels: &[usize], level: usize, cards: &[Body]) -> bool
     requires keyed { keys subs.now ≡ names_of (values subs.now) }
-    ensures down { OnTrue result (AllByRecursion (λ n. level_in (values subs.now) levels.now n < level) (callees (bodies_value cards.now))) }
+    ensures not_up { OnTrue result (AtMost (level_in (values subs.now) levels.now) level (bodies_value cards.now)) }
 {
     let mut rest = cards;
     while let [card, behind @ ..] = rest {
-        if !card_goes_down(subs, levels, level, card) {
+        if !card_not_up(subs, levels, level, card) {
             return false;
         }
         rest = behind;
@@ -146,23 +143,23 @@ fn cards_go_down(subs: &IndexMap<Name, Sub>, levels: &[usize], level: usize, car
     true
 }
 
-/// What a subcircuit calls has numbers below its own.
-fn goes_down(subs: &IndexMap<Name, Sub>, levels: &[usize], sub: &Sub) -> bool
+/// What a subcircuit calls has at most its own number.
+fn calls_not_up(subs: &IndexMap<Name, Sub>, levels: &[usize], sub: &Sub) -> bool
     requires keyed { keys subs.now ≡ names_of (values subs.now) }
-    ensures down { OnTrue result (Down (level_in (values subs.now) levels.now) (sub.now ∷ [])) }
+    ensures not_up { OnTrue result (NoneUp (level_in (values subs.now) levels.now) (sub.now ∷ [])) }
 {
     let level = level_of(subs, levels, sub.head().name());
-    cards_go_down(subs, levels, level, sub.cards())
+    cards_not_up(subs, levels, level, sub.cards())
 }
 
-/// By these numbers each call of a subcircuit goes down.
-fn all_go_down(subs: &IndexMap<Name, Sub>, levels: &[usize]) -> bool
+/// By these numbers no call of these subcircuits goes up.
+fn none_goes_up(subs: &IndexMap<Name, Sub>, levels: &[usize], callers: &[Sub]) -> bool
     requires keyed { keys subs.now ≡ names_of (values subs.now) }
-    ensures down { OnTrue result (AreLevels (values subs.now) levels.now) }
+    ensures not_up { OnTrue result (NoneUp (level_in (values subs.now) levels.now) callers.now) }
 {
-    let mut rest = subs.values().as_slice();
+    let mut rest = callers;
     while let [sub, behind @ ..] = rest {
-        if !goes_down(subs, levels, sub) {
+        if !calls_not_up(subs, levels, sub) {
             return false;
         }
         rest = behind;
@@ -170,14 +167,14 @@ fn all_go_down(subs: &IndexMap<Name, Sub>, levels: &[usize]) -> bool
     true
 }
 
-/// Numbers of the subcircuits, by their places, by which each call of a subcircuit goes down. There are such numbers unless
-/// calls lead back to where they come from, and then they are found.
+/// Numbers of the subcircuits, by their places, by which no call of a subcircuit goes up, and each goes down that no
+/// subcircuit which leads back to itself leads to.
 pub fn levels(alloc: Global, subs: &IndexMap<Name, Sub>) -> Result<Option<Vec<usize>>, AllocError>
     requires keyed { keys subs.now ≡ names_of (values subs.now) }
-    ensures down { IfOk result (λ found. IfSome found (λ levels. AreLevels (values subs.now) levels.items)) }
+    ensures not_up { IfOk result (λ found. IfSome found (λ levels. AreLevels (values subs.now) levels.items)) }
 {
     let levels = numbers(alloc, subs)?;
-    if all_go_down(subs, &levels) {
+    if none_goes_up(subs, &levels, subs.values().as_slice()) {
         return Ok(Some(levels));
     }
     Ok(None)

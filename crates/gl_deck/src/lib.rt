@@ -11,6 +11,7 @@ mod globals;
 mod laws;
 mod levels;
 mod lines;
+mod print;
 mod reach;
 mod read;
 mod refused;
@@ -21,6 +22,8 @@ mod sub;
 mod tests;
 #[cfg(test)]
 mod tests_calls;
+#[cfg(test)]
+mod tests_print;
 
 pub use body::Body;
 pub use deck::Deck;
