@@ -1,6 +1,8 @@
 pub mod Ascent
 pub mod CallLaws
 pub mod CardSteps
+pub mod DraftEnds
+pub mod DraftOf
 pub mod DraftTables
 pub mod FaultLaws
 pub mod FaultSteps
@@ -8,7 +10,10 @@ pub mod GlobalLaws
 pub mod LevelLaws
 pub mod LoopLaws
 pub mod Members
+pub mod NameSteps
 pub mod NodeLaws
+pub mod PlacedLists
+pub mod PrintingLaws
 pub mod ReachLaws
 pub mod ReadLaws
 pub mod SubSteps

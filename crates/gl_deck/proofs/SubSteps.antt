@@ -11,7 +11,8 @@ use Rattle.gl_text.specs.Decks.{Body, dev_at, call_at, Sub, Placed, body_of, bod
 use Rattle.gl_deck.specs.Bodies.{names_of}
 use Rattle.gl_deck.specs.Drafts.{Draft, scope_of, with_card, known_at, nested_in}
 use Rattle.gl_deck.proofs.DraftTables.{keyed}
-use Rattle.gl_deck.proofs.CardSteps.{placed, push, none_more, apart, apart_back, same_number, absent, current_after, body_in, no_bodies}
+use Rattle.gl_deck.proofs.PlacedLists.{placed, push, none_more, apart, apart_back, same_number, absent, body_in}
+use Rattle.gl_deck.proofs.CardSteps.{current_after, no_bodies}
 
 -- the line and the head of a `.subckt`
 abbrev pub head_in : ℕ → Card → Option (ℕ × Head)

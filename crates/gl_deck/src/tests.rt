@@ -326,12 +326,18 @@ fn untitled(rt: HostRuntime) -> Result<(), Fail> {
     Ok(())
 }
 
+/// What a text is read as: a deck, shown as so many times the letter x between two texts, or a refusal.
+enum Wanted {
+    Deck(&'static [u8], &'static [u8]),
+    Refusal(&'static [u8]),
+}
+
 /// A text, so many times the letter x, and a text.
 struct Filled {
     before: &'static [u8],
     count: usize,
     after: &'static [u8],
-    wanted: Option<&'static [u8]>,
+    wanted: Wanted,
 }
 
 const LIMITS: [Filled; 12] = [
@@ -339,103 +345,117 @@ const LIMITS: [Filled; 12] = [
         before: b"",
         count: 131_072,
         after: b"\r\n",
-        wanted: None,
+        wanted: Wanted::Deck(b"", b""),
     },
     Filled {
         before: b"",
         count: 131_073,
         after: b"\r\nq1\n",
-        wanted: Some(b"line 1: 131073 bytes, more than a card may have"),
+        wanted: Wanted::Refusal(b"line 1: 131073 bytes, more than a card may have"),
     },
     Filled {
         before: b"t\n.o",
         count: 131_070,
         after: b"\n",
-        wanted: None,
+        wanted: Wanted::Deck(b"t|.o", b""),
     },
     Filled {
         before: b"t\n.o",
         count: 131_071,
         after: b"",
-        wanted: Some(b"line 2: 131073 bytes, more than a card may have"),
+        wanted: Wanted::Refusal(b"line 2: 131073 bytes, more than a card may have"),
     },
     Filled {
         before: b"t\nr",
         count: 1_023,
         after: b" a b 1\n",
-        wanted: None,
+        wanted: Wanted::Deck(b"t|2 r", b" a b 1"),
     },
     Filled {
         before: b"t\nr",
         count: 1_024,
         after: b" a b 1\n",
-        wanted: Some(b"line 2: a name of 1025 bytes"),
+        wanted: Wanted::Refusal(b"line 2: a name of 1025 bytes"),
     },
     Filled {
         before: b"t\nr1 a b ",
         count: 65_536,
         after: b"",
-        wanted: None,
+        wanted: Wanted::Deck(b"t|2 r1 a b ", b""),
     },
     Filled {
         before: b"t\nr1 a b ",
         count: 65_537,
         after: b"\nq1\n",
-        wanted: Some(b"line 2: a tail of 65537 bytes"),
+        wanted: Wanted::Refusal(b"line 2: a tail of 65537 bytes"),
     },
     // a name that is taken before a long tail
     Filled {
         before: b"t\nr1 a b 1\nr1 a b ",
         count: 65_537,
         after: b"",
-        wanted: Some(b"line 3: the name of line 2"),
+        wanted: Wanted::Refusal(b"line 3: the name of line 2"),
     },
     // a card that belongs to the top before a long tail
     Filled {
         before: b"t\n.subckt s a\n.model n nmos ",
         count: 65_537,
         after: b"",
-        wanted: Some(b"line 3: a card that belongs to the top stands inside a subcircuit"),
+        wanted: Wanted::Refusal(
+            b"line 3: a card that belongs to the top stands inside a subcircuit",
+        ),
     },
     // a long name before a subcircuit that is left open
     Filled {
         before: b"t\n.subckt s a\nr",
         count: 1_024,
         after: b" a b 1\n",
-        wanted: Some(b"line 3: a name of 1025 bytes"),
+        wanted: Wanted::Refusal(b"line 3: a name of 1025 bytes"),
     },
     // a long name before a card that belongs to the top
     Filled {
         before: b"t\n.subckt s a\n.model ",
         count: 1_025,
         after: b" nmos\n",
-        wanted: Some(b"line 3: a name of 1025 bytes"),
+        wanted: Wanted::Refusal(b"line 3: a name of 1025 bytes"),
     },
 ];
 
-/// The bytes of a filled text.
-fn bytes_of(alloc: Global, row: &Filled) -> Result<Vec<u8>, AllocError> {
-    let mut bytes = Vec::from_slice(alloc, row.before)?;
-    for _ in 0..row.count {
+/// So many times the letter x between two texts.
+fn with_letters(
+    alloc: Global,
+    before: &[u8],
+    count: usize,
+    after: &[u8],
+) -> Result<Vec<u8>, AllocError> {
+    let mut bytes = Vec::from_slice(alloc, before)?;
+    for _ in 0..count {
         bytes.push(b'x')?;
     }
-    bytes.extend_from_slice(row.after)?;
+    bytes.extend_from_slice(after)?;
     Ok(bytes)
+}
+
+/// The text that is wanted.
+fn wanted_text(alloc: Global, row: &Filled) -> Result<Vec<u8>, AllocError> {
+    match row.wanted {
+        Wanted::Deck(before, after) => with_letters(alloc, before, row.count, after),
+        Wanted::Refusal(text) => Vec::from_slice(alloc, text),
+    }
 }
 
 #[test]
 fn limits(rt: HostRuntime) -> Result<(), Fail> {
     for row in &LIMITS {
-        let bytes = bytes_of(rt.alloc(), row)?;
+        let bytes = with_letters(rt.alloc(), row.before, row.count, row.after)?;
         assert!(rt; bytes.len() <= 67_108_864);
-        match (Deck::read(rt.alloc(), &bytes, true), row.wanted) {
-            (Ok(_), None) => {}
-            (Err(fault), Some(wanted)) => {
-                assert_eq!(rt; fault.to_string(rt.alloc())?.as_bytes(), wanted)
-            }
-            (Err(fault), None) => assert_eq!(rt; fault.to_string(rt.alloc())?.as_str(), "a deck"),
-            (Ok(_), Some(_)) => assert!(rt; false),
-        }
+        let deck = Deck::read(rt.alloc(), &bytes, true);
+        let wanted = wanted_text(rt.alloc(), row)?;
+        assert!(rt;
+            answer(rt.alloc(), deck)?.as_slice() == wanted.as_slice(),
+            "{}",
+            row.count
+        );
     }
     Ok(())
 }
