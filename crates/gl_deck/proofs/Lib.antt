@@ -2,6 +2,10 @@ pub mod CallLaws
 pub mod LevelLaws
 pub mod Members
 pub mod ReachLaws
+pub mod PlaceLaws
+pub mod MarkLaws
+pub mod SpreadLaws
 pub mod WalkLaws
+pub mod MarkedLaws
 pub mod TableLaws
 pub mod PrintingLaws
