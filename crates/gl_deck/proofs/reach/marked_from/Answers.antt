@@ -10,7 +10,9 @@ use Rattle.gl_deck.specs.Bodies.{names_of}
 use Rattle.gl_deck.specs.Walks.{Walk, marked_all, calls_of}
 use Rattle.gl_deck.proofs.Members.{among_in}
 use Rattle.gl_deck.proofs.ReachLaws.{settled, keeps}
-use Rattle.gl_deck.proofs.WalkLaws.{IsWalk, begins, advances, less_left, left, walked}
+use Rattle.gl_deck.proofs.MarkLaws.{left}
+use Rattle.gl_deck.proofs.WalkLaws.{IsWalk, begins, advances, less_left}
+use Rattle.gl_deck.proofs.MarkedLaws.{walked}
 use Rattle.gl_deck.proofs.reach.marked_from.Goals as goal
 
 pub loop-place-init : goal.loop-place-init

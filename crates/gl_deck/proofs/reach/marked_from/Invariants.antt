@@ -1,7 +1,8 @@
 use Rattle.std.proofs.Common.{[], ◌∷◌, length}
 use Rattle.indexmap.specs.IndexMap.{values}
 use Rattle.gl_text.specs.Decks.{steps}
-use Rattle.gl_deck.proofs.WalkLaws.{IsWalk, left}
+use Rattle.gl_deck.proofs.MarkLaws.{left}
+use Rattle.gl_deck.proofs.WalkLaws.{IsWalk}
 use Rattle.gl_deck.proofs.reach.marked_from.Given as goal
 
 abbrev pub invariant-loop-place : goal.invariant-loop-place
