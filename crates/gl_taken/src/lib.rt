@@ -12,7 +12,7 @@ mod refusal;
 mod tests;
 
 pub use devices::DeviceDeck;
-pub use fault::TakenFault;
+pub use fault::{TakenFault, told};
 pub use gl_deck::{DevCard, Head, Letter, ModelCard, Name, Tail};
 pub use library::CellLibrary;
 pub use refusal::Refusal;
