@@ -1,0 +1,66 @@
+ghost use Rattle.std.specs.Prelude.{◌≡◌, ◌+◌, List, map, min, slice_index, sum_by, IfOk};
+ghost use Rattle.gl_text.specs.Decks.{Sub};
+ghost use Rattle.gl_text.specs.Flattening as flattening;
+ghost use Rattle.gl_size.specs.Counts.{counts_of, most_of};
+ghost use Rattle.gl_size.specs.Tallies.{own_in, tallies_of};
+
+use crate::counted::{add, Counted};
+use crate::tally::Tally;
+use std::alloc::{AllocError, Global};
+
+/// The most X cards that may stand in a chain.
+const DEPTH: usize = 32;
+
+/// What the subcircuits at these places count together, at most `most`, where these are the counts of all subcircuits.
+/// One without a count counts nothing.
+fn total_at(counts: &[u32], places: &[usize], most: u32) -> u32
+    ensures total { result ≡ min (sum_by (slice_index counts.now) places.now) most }
+{
+    let mut total = 0;
+    let mut rest = places;
+    while let [place, behind @ ..] = rest {
+        let more = counts.get(*place).copied().unwrap_or(0);
+        total = add(total, more, most);
+        rest = behind;
+    }
+    total
+}
+
+/// What a subcircuit counts where those that it calls have these counts.
+fn count_of(counted: Counted, counts: &[u32], tally: &Tally) -> u32
+    ensures count { result ≡ min (own_in counted tally.now + min (sum_by (slice_index counts.now) tally.now.calls) (most_of counted)) (most_of counted) }
+{
+    let most = counted.most();
+    add(
+        tally.own(counted),
+        total_at(counts, tally.calls(), most),
+        most,
+    )
+}
+
+/// What each subcircuit counts through one X card more than these counts have.
+fn deeper_counts(
+    alloc: Global,
+    counted: Counted,
+    tallies: &[Tally],
+    counts: &[u32],
+) -> Result<Vec<u32>, AllocError>
+    ensures counts { IfOk result (λ v. v.items ≡ map (λ t. min (own_in counted t + min (sum_by (slice_index counts.now) t.calls) (most_of counted)) (most_of counted)) tallies.now) }
+{
+    tallies
+        .iter()
+        .map(|tally| count_of(counted, counts, tally))
+        .collect(alloc)
+}
+
+/// What each subcircuit counts, at most one more than there may be.
+pub fn counts(alloc: Global, counted: Counted, tallies: &[Tally]) -> Result<Vec<u32>, AllocError>
+    ensures counts { IfOk result (λ v. (subs : List Sub) → tallies.now ≡ tallies_of subs → v.items ≡ counts_of counted subs flattening.DEPTH) }
+{
+    let mut counts = Vec::new(alloc);
+    for depth in 0..DEPTH {
+        let _ = depth;
+        counts = deeper_counts(alloc, counted, tallies, &counts)?;
+    }
+    Ok(counts)
+}
