@@ -7,11 +7,9 @@ ghost use Rattle.gl_deck.specs.Bodies.{names_of};
 ghost use Rattle.gl_size.specs.Chains.{chains_of};
 ghost use Rattle.gl_size.specs.Tallies.{tallies_of};
 
+use crate::limits::DEPTH;
 use crate::tally::Tally;
 use std::alloc::{AllocError, Global};
-
-/// The most X cards that may stand in a chain.
-const DEPTH: usize = 32;
 
 /// A chain begins in the subcircuit at this place.
 pub fn is_marked(marks: &[bool], place: usize) -> bool

@@ -4,12 +4,7 @@ ghost use Rattle.gl_size.specs.Counts.{most_of, own_of};
 ghost use Rattle.gl_size.specs.Tallies.{own_count};
 
 use crate::Body;
-
-/// The most cards that a deck may expand to.
-const CARDS: u32 = 400_000;
-
-/// The most devices that a deck may expand to.
-const DEVICES: u32 = 200_000;
+use crate::limits::{CARDS, DEVICES};
 
 /// What is counted.
 #[derive(Clone, Copy, Debug)]

@@ -6,15 +6,10 @@ ghost use Rattle.gl_text.specs.Flattening.{at_depth, count, is_none_left, one, o
 ghost use Rattle.gl_deck.specs.Bodies.{bodies_value, names_of};
 ghost use Rattle.gl_size.specs.Excesses.{fault_of_excess};
 
+use crate::limits::{CARDS, DEVICES};
 use crate::{Body, Name, Sizes, Sub};
 use indexmap::IndexMap;
 use std::alloc::{AllocError, Global};
-
-/// The most cards that a deck may expand to.
-const CARDS: u32 = 400_000;
-
-/// The most devices that a deck may expand to.
-const DEVICES: u32 = 200_000;
 
 /// Why a deck is not expanded. The first comes first.
 #[derive(Clone, Copy, Debug, PartialEq, Eq)]

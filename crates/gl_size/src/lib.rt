@@ -4,10 +4,13 @@
 mod chains;
 mod counted;
 mod excess;
+mod limits;
 mod rounds;
 mod sizes;
 mod tally;
+#[cfg(test)]
+mod tests;
 
-pub use excess::{first_excess, Excess};
+pub use excess::{Excess, first_excess};
 pub use gl_deck::{Body, Name, Sub};
 pub use sizes::Sizes;

@@ -4,12 +4,10 @@ ghost use Rattle.gl_text.specs.Flattening as flattening;
 ghost use Rattle.gl_size.specs.Counts.{counts_of, most_of};
 ghost use Rattle.gl_size.specs.Tallies.{own_in, tallies_of};
 
-use crate::counted::{add, Counted};
+use crate::counted::{Counted, add};
+use crate::limits::DEPTH;
 use crate::tally::Tally;
 use std::alloc::{AllocError, Global};
-
-/// The most X cards that may stand in a chain.
-const DEPTH: usize = 32;
 
 /// What the subcircuits at these places count together, at most `most`, where these are the counts of all subcircuits.
 /// One without a count counts nothing.

@@ -9,7 +9,7 @@ ghost use Rattle.gl_size.specs.Excesses.{AreSizes};
 ghost use Rattle.gl_size.specs.Tallies.{places_of};
 
 use crate::chains::{deep, is_marked};
-use crate::counted::{add, Counted};
+use crate::counted::{Counted, add};
 use crate::rounds::counts;
 use crate::tally::{called_place, tallies};
 use crate::{Body, Name, Sub};

@@ -18,9 +18,11 @@ returns c =
     let own = own_count kind cards in
     let m = c.most-most.result in
     let called = c.called_total-called.ensures.total ∙ ap (λ (cs : List ℕ). min (sum_by (slice_index cs) places) m) c.requires.of in
-    record { total =
-        c.add.ensures.sum
-        ∙ ap (λ o. min (o + c.called_total-called.result) m) c.own_total.ensures.total
-        ∙ ap (λ k. min (own + k) m) called
-        ∙ ap (λ n. min (own + min (sum_by (slice_index (counts_of kind subs DEPTH)) places) n) n) c.most-most.ensures.most
-        ∙ counted_at kind subs DEPTH cards }
+    record {
+      total =
+          c.add.ensures.sum
+          ∙ ap (λ o. min (o + c.called_total-called.result) m) c.own_total.ensures.total
+          ∙ ap (λ k. min (own + k) m) called
+          ∙ ap (λ n. min (own + min (sum_by (slice_index (counts_of kind subs DEPTH)) places) n) n) c.most-most.ensures.most
+          ∙ counted_at kind subs DEPTH cards;
+    }

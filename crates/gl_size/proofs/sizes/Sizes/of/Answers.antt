@@ -7,7 +7,6 @@ use Rattle.gl_size.specs.Counts.{counts_of}
 use Rattle.gl_size.specs.Chains.{chains_of}
 use Rattle.gl_size.proofs.sizes.Sizes.of.Goals as goal
 
-
 abbrev sizes_by : List ℕ → List ℕ → List Bool → Sizes
 sizes_by cards devices deep = record { cards = cards; devices = devices; deep = deep }
 
