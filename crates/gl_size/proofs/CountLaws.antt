@@ -1,5 +1,5 @@
 -- Counts by places are those by names, and a sum that is cut at a limit says what the limit decides.
-use Rattle.std.proofs.Common.{◌≡◌, ◌+◌, ◌<◌, ◌≤◌, ℕ, zero, suc, List, [], ◌∷◌, ◌++◌, length, map, cond, ltb, Bool, true, false, Option, Some, None, get_or, refl, sym, ap, subst, ◌∙◌, arith}
+use Rattle.std.proofs.Common.{◌≡◌, ◌+◌, ◌≤◌, ℕ, zero, suc, List, [], ◌∷◌, length, map, cond, ltb, Bool, true, false, Option, Some, None, get_or, refl, sym, ap, ◌∙◌, arith}
 use Rattle.std.specs.Prelude.{min, not, sum_by, slice_index, find, unwrap_or, option_map, option_to_list}
 use Rattle.std.proofs.Math.Nat.{zero-min}
 use Rattle.std.specs.List.{position_or_len}
@@ -8,14 +8,14 @@ use Rattle.std.proofs.lemmas.List.{get_or_past, length-map}
 use Rattle.std.proofs.lemmas.List.Sums.{sum_by-cons, sum_by-append}
 use Rattle.gl_text.specs.LogicalLines.{same_text}
 use Rattle.gl_text.specs.Decks.{Body, dev_at, call_at, Sub, callees}
-use Rattle.gl_text.specs.Flattening.{DEPTH, one, one_device, count, size_of, sizes}
+use Rattle.gl_text.specs.Flattening.{size_of, sizes}
 use Rattle.gl_deck.specs.Bodies.{names_of}
 use Rattle.gl_deck.specs.Levels.{place_in}
 use Rattle.gl_deck.proofs.CallLaws.{flipped}
 use Rattle.gl_size.specs.declared.counted.Counted.{Counted}
 use Rattle.gl_size.specs.declared.counted.Counted.TheVariants as counted
 use Rattle.gl_size.specs.Counts.{own_of, most_of, counts_of}
-use Rattle.gl_size.specs.Tallies.{Tally, places_of, own_count, tally_of, tallies_of, own_in}
+use Rattle.gl_size.specs.Tallies.{places_of, own_count, tally_of, tallies_of, own_in, count_through}
 
 -- ---- cut sums
 
@@ -131,20 +131,16 @@ own_is : (kind : Counted) (subs : List Sub) (cards : List Body) → own_in kind 
 own_is counted.Cards subs cards = refl
 own_is counted.Devices subs cards = refl
 
--- what a subcircuit counts by the counts of those that it calls
-abbrev pub count_by : Counted → List ℕ → Tally → ℕ
-count_by kind counts t = min (own_in kind t + min (sum_by (slice_index counts) t.calls) (most_of kind)) (most_of kind)
-
-next_by : (kind : Counted) (subs : List Sub) (depth : ℕ) (ss : List Sub) → map (count_by kind (counts_of kind subs depth)) (map (λ (s : Sub). tally_of subs s.cards) ss) ≡ map (λ (e : List ℕ × ℕ). min e.1 (most_of kind)) (map (λ (s : Sub). (s.head.name, sum_by (size_of (own_of kind) (sizes (own_of kind) subs depth)) s.cards)) ss)
+next_by : (kind : Counted) (subs : List Sub) (depth : ℕ) (ss : List Sub) → map (count_through kind (counts_of kind subs depth)) (map (λ (s : Sub). tally_of subs s.cards) ss) ≡ map (λ (e : List ℕ × ℕ). min e.1 (most_of kind)) (map (λ (s : Sub). (s.head.name, sum_by (size_of (own_of kind) (sizes (own_of kind) subs depth)) s.cards)) ss)
 next_by kind subs depth [] = refl
 next_by kind subs depth (s ∷ ss) =
     let m = most_of kind in
     let called = min (sum_by (slice_index (counts_of kind subs depth)) (places_of subs (callees s.cards))) m in
     let here = ap (λ own. min (own + called) m) (own_is kind subs s.cards) ∙ counted_at kind subs depth s.cards in
     let rest = next_by kind subs depth ss in
-    ap (λ c. c ∷ map (count_by kind (counts_of kind subs depth)) (map (λ (s : Sub). tally_of subs s.cards) ss)) here
+    ap (λ c. c ∷ map (count_through kind (counts_of kind subs depth)) (map (λ (s : Sub). tally_of subs s.cards) ss)) here
     ∙ ap (λ cs. min (sum_by (size_of (own_of kind) (sizes (own_of kind) subs depth)) s.cards) m ∷ cs) rest
 
 -- one X card more
-pub next_counts : (kind : Counted) (subs : List Sub) (depth : ℕ) → map (count_by kind (counts_of kind subs depth)) (tallies_of subs) ≡ counts_of kind subs (suc depth)
+pub next_counts : (kind : Counted) (subs : List Sub) (depth : ℕ) → map (count_through kind (counts_of kind subs depth)) (tallies_of subs) ≡ counts_of kind subs (suc depth)
 next_counts kind subs depth = next_by kind subs depth subs

@@ -17,6 +17,7 @@ pub record Sizes : Type 0 where
   pub devices : List ℕ
   pub deep : List Bool
 
+-- those of these subcircuits
 abbrev pub sizes_of : List Sub → Sizes
 sizes_of subs = record { cards = counts_of counted.Cards subs DEPTH; devices = counts_of counted.Devices subs DEPTH; deep = chains_of subs DEPTH }
 

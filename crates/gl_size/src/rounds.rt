@@ -1,8 +1,8 @@
-ghost use Rattle.std.specs.Prelude.{◌≡◌, ◌+◌, List, map, min, slice_index, sum_by, IfOk};
+ghost use Rattle.std.specs.Prelude.{◌≡◌, List, map, min, IfOk};
 ghost use Rattle.gl_text.specs.Decks.{Sub};
 ghost use Rattle.gl_text.specs.Flattening as flattening;
-ghost use Rattle.gl_size.specs.Counts.{counts_of, most_of};
-ghost use Rattle.gl_size.specs.Tallies.{own_in, tallies_of};
+ghost use Rattle.gl_size.specs.Counts.{counts_of};
+ghost use Rattle.gl_size.specs.Tallies.{count_through, sum_at, tallies_of};
 
 use crate::counted::{Counted, add};
 use crate::limits::DEPTH;
@@ -12,7 +12,7 @@ use std::alloc::{AllocError, Global};
 /// What the subcircuits at these places count together, at most `most`, where these are the counts of all subcircuits.
 /// One without a count counts nothing.
 fn total_at(counts: &[u32], places: &[usize], most: u32) -> u32
-    ensures total { result ≡ min (sum_by (slice_index counts.now) places.now) most }
+    ensures total { result ≡ min (sum_at counts.now places.now) most }
 {
     let mut total = 0;
     let mut rest = places;
@@ -26,7 +26,7 @@ fn total_at(counts: &[u32], places: &[usize], most: u32) -> u32
 
 /// What a subcircuit counts where those that it calls have these counts.
 fn count_of(counted: Counted, counts: &[u32], tally: &Tally) -> u32
-    ensures count { result ≡ min (own_in counted tally.now + min (sum_by (slice_index counts.now) tally.now.calls) (most_of counted)) (most_of counted) }
+    ensures count { result ≡ count_through counted counts.now tally.now }
 {
     let most = counted.most();
     add(
@@ -43,7 +43,7 @@ fn deeper_counts(
     tallies: &[Tally],
     counts: &[u32],
 ) -> Result<Vec<u32>, AllocError>
-    ensures counts { IfOk result (λ v. v.items ≡ map (λ t. min (own_in counted t + min (sum_by (slice_index counts.now) t.calls) (most_of counted)) (most_of counted)) tallies.now) }
+    ensures counts { IfOk result (λ v. v.items ≡ map (count_through counted counts.now) tallies.now) }
 {
     tallies
         .iter()
@@ -53,7 +53,8 @@ fn deeper_counts(
 
 /// What each subcircuit counts, at most one more than there may be.
 pub fn counts(alloc: Global, counted: Counted, tallies: &[Tally]) -> Result<Vec<u32>, AllocError>
-    ensures counts { IfOk result (λ v. (subs : List Sub) → tallies.now ≡ tallies_of subs → v.items ≡ counts_of counted subs flattening.DEPTH) }
+    ensures counts { IfOk result (λ v. (subs : List Sub) → tallies.now ≡ tallies_of subs
+        → v.items ≡ counts_of counted subs flattening.DEPTH) }
 {
     let mut counts = Vec::new(alloc);
     for depth in 0..DEPTH {

@@ -1,12 +1,10 @@
-ghost use Rattle.std.specs.Prelude.{◌≡◌, ◌+◌, [], ◌∷◌, false, min, not, slice_index, slice_index_or, sum_by, IfOk};
-ghost use Rattle.std.specs.List.{list_any};
+ghost use Rattle.std.specs.Prelude.{◌≡◌, ◌+◌, [], ◌∷◌, min, not, IfOk};
 ghost use Rattle.indexmap.specs.IndexMap.{keys, values};
-ghost use Rattle.gl_text.specs.Decks.{callees};
 ghost use Rattle.gl_text.specs.Flattening.{at_depth, count, is_none_left, one, one_device, CARDS, DEPTH, DEVICES};
 ghost use Rattle.gl_deck.specs.Bodies.{bodies_value, names_of};
 ghost use Rattle.gl_size.specs.Counts.{counts_of, most_of, own_of};
 ghost use Rattle.gl_size.specs.Excesses.{AreSizes};
-ghost use Rattle.gl_size.specs.Tallies.{places_of};
+ghost use Rattle.gl_size.specs.Tallies.{calls_of, has_mark, sum_at};
 
 use crate::chains::{deep, is_marked};
 use crate::counted::{Counted, add};
@@ -81,7 +79,7 @@ impl Sizes {
 /// What a card's subcircuit counts, where these are the counts of all subcircuits.
 fn called_count(counts: &[u32], subs: &IndexMap<Name, Sub>, card: &Body) -> u32
     requires keyed { keys subs.now ≡ names_of (values subs.now) }
-    ensures count { result ≡ sum_by (slice_index counts.now) (places_of (values subs.now) (callees (bodies_value (card.now ∷ [])))) }
+    ensures count { result ≡ sum_at counts.now (calls_of (values subs.now) (bodies_value (card.now ∷ []))) }
 {
     match called_place(subs, card) {
         Some(place) => counts.get(place).copied().unwrap_or(0),
@@ -92,7 +90,7 @@ fn called_count(counts: &[u32], subs: &IndexMap<Name, Sub>, card: &Body) -> u32
 /// What the subcircuits count together that cards call, at most `most`, where these are the counts of all subcircuits.
 fn called_total(counts: &[u32], subs: &IndexMap<Name, Sub>, cards: &[Body], most: u32) -> u32
     requires keyed { keys subs.now ≡ names_of (values subs.now) }
-    ensures total { result ≡ min (sum_by (slice_index counts.now) (places_of (values subs.now) (callees (bodies_value cards.now)))) most }
+    ensures total { result ≡ min (sum_at counts.now (calls_of (values subs.now) (bodies_value cards.now))) most }
 {
     let mut total = 0;
     let mut rest = cards;
@@ -117,7 +115,7 @@ fn total(counted: Counted, counts: &[u32], subs: &IndexMap<Name, Sub>, cards: &[
 /// A card calls a subcircuit that is marked.
 fn calls_marked(marks: &[bool], subs: &IndexMap<Name, Sub>, card: &Body) -> bool
     requires keyed { keys subs.now ≡ names_of (values subs.now) }
-    ensures marked { result ≡ list_any (λ place. slice_index_or marks.now place false) (places_of (values subs.now) (callees (bodies_value (card.now ∷ [])))) }
+    ensures marked { result ≡ has_mark marks.now (calls_of (values subs.now) (bodies_value (card.now ∷ []))) }
 {
     match called_place(subs, card) {
         Some(place) => is_marked(marks, place),
@@ -128,7 +126,7 @@ fn calls_marked(marks: &[bool], subs: &IndexMap<Name, Sub>, card: &Body) -> bool
 /// One of the cards calls a subcircuit that is marked.
 fn call_marked(marks: &[bool], subs: &IndexMap<Name, Sub>, cards: &[Body]) -> bool
     requires keyed { keys subs.now ≡ names_of (values subs.now) }
-    ensures marked { result ≡ list_any (λ place. slice_index_or marks.now place false) (places_of (values subs.now) (callees (bodies_value cards.now))) }
+    ensures marked { result ≡ has_mark marks.now (calls_of (values subs.now) (bodies_value cards.now)) }
 {
     let mut rest = cards;
     while let [card, behind @ ..] = rest {

@@ -2,10 +2,9 @@ ghost use Rattle.std.specs.Prelude.{◌≡◌, [], ◌∷◌, IfOk, option_to_li
 ghost use Rattle.indexmap.specs.IndexMap.{keys, values};
 ghost use Rattle.std.specs.List.{IsDistinct};
 ghost use Rattle.gl_text.specs.LogicalLines.{same_text};
-ghost use Rattle.gl_text.specs.Decks.{callees};
 ghost use Rattle.gl_deck.specs.Bodies.{bodies_value, names_of};
 ghost use Rattle.gl_deck.specs.Levels.{place_in};
-ghost use Rattle.gl_size.specs.Tallies.{own_in, places_of, tallies_of, tally_of};
+ghost use Rattle.gl_size.specs.Tallies.{calls_of, own_in, tallies_of, tally_of};
 
 use crate::counted::Counted;
 use crate::{Body, Name, Sub};
@@ -74,7 +73,7 @@ fn place_of(subs: &IndexMap<Name, Sub>, name: &Name) -> Option<usize>
 /// Where the subcircuit that a card calls stands in the table.
 pub fn called_place(subs: &IndexMap<Name, Sub>, card: &Body) -> Option<usize>
     requires keyed { keys subs.now ≡ names_of (values subs.now) }
-    ensures place { option_to_list result ≡ places_of (values subs.now) (callees (bodies_value (card.now ∷ []))) }
+    ensures place { option_to_list result ≡ calls_of (values subs.now) (bodies_value (card.now ∷ [])) }
 {
     match card {
         Body::Dev(_, _) => None,
@@ -89,7 +88,7 @@ fn called_places(
     cards: &[Body],
 ) -> Result<Vec<usize>, AllocError>
     requires keyed { keys subs.now ≡ names_of (values subs.now) }
-    ensures places { IfOk result (λ v. v.items ≡ places_of (values subs.now) (callees (bodies_value cards.now))) }
+    ensures places { IfOk result (λ v. v.items ≡ calls_of (values subs.now) (bodies_value cards.now)) }
 {
     let mut places = Vec::new(alloc);
     let mut rest = cards;

@@ -1,6 +1,6 @@
-use Rattle.std.proofs.Common.{◌≡◌, ◌∙◌, ◌+◌, add-one, List, ℕ, Bool, map, ap, sym}
+use Rattle.std.proofs.Common.{◌∙◌, add-one, List, Bool, map, ap, sym}
 use Rattle.gl_size.specs.Chains.{chains_of}
-use Rattle.gl_size.specs.Tallies.{Tally, tallies_of}
+use Rattle.gl_size.specs.Tallies.{Tally}
 use Rattle.gl_size.proofs.ChainLaws.{first_chains, next_chains, calls_by}
 use Rattle.gl_size.proofs.chains.deep.Goals as goal
 

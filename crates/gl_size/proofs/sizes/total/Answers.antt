@@ -1,4 +1,4 @@
-use Rattle.std.proofs.Common.{◌≡◌, ◌∙◌, ◌+◌, List, ℕ, min, ap}
+use Rattle.std.proofs.Common.{◌∙◌, ◌+◌, List, ℕ, min, ap}
 use Rattle.std.specs.Prelude.{sum_by, slice_index}
 use Rattle.indexmap.specs.IndexMap.{values}
 use Rattle.gl_text.specs.Decks.{callees}

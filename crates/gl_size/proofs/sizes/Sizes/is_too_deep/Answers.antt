@@ -1,4 +1,4 @@
-use Rattle.std.proofs.Common.{◌≡◌, ◌∙◌, List, Bool, ap}
+use Rattle.std.proofs.Common.{◌∙◌, List, Bool, ap}
 use Rattle.std.specs.List.{list_any}
 use Rattle.indexmap.specs.IndexMap.{values}
 use Rattle.gl_text.specs.Decks.{callees}
