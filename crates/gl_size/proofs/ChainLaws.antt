@@ -14,7 +14,7 @@ use Rattle.gl_deck.specs.declared.body.Body as cards
 use Rattle.gl_deck.specs.Bodies.{bodies_value, body_value, names_of}
 use Rattle.gl_deck.specs.Levels.{place_in}
 use Rattle.gl_deck.proofs.Members.{In, in_any, from_any, at_in, in_at, in_filter, from_filter, is_in_from, from_is_in}
-use Rattle.gl_deck.proofs.WalkLaws.{own_place, at_its_place}
+use Rattle.gl_deck.proofs.PlaceLaws.{own_place, at_its_place}
 use Rattle.gl_size.specs.Chains.{has_chain, chains_of}
 use Rattle.gl_size.specs.Tallies.{Tally, places_of, tally_of, tallies_of}
 
