@@ -1,3 +1,6 @@
+ghost use Rattle.std.specs.Prelude.{◌≤◌, length};
+ghost use Rattle.gl_text.specs.LogicalLines.{FILE};
+
 use crate::{CellLibrary, DeviceDeck, Refusal, TakenFault};
 
 #[test]
@@ -30,12 +33,16 @@ fn a_library_of_one_cell(rt: HostRuntime) -> Result<(), TakenFault> {
 }
 
 /// The refusal of a deck.
-fn of_deck(rt: &HostRuntime, text: &str) -> Option<TakenFault> {
+fn of_deck(rt: &HostRuntime, text: &str) -> Option<TakenFault>
+    requires short { length text.now ≤ FILE }
+{
     DeviceDeck::read(rt.alloc(), text.as_bytes()).err()
 }
 
 /// The refusal of a library.
-fn of_library(rt: &HostRuntime, text: &str) -> Option<TakenFault> {
+fn of_library(rt: &HostRuntime, text: &str) -> Option<TakenFault>
+    requires short { length text.now ≤ FILE }
+{
     CellLibrary::read(rt.alloc(), text.as_bytes()).err()
 }
 
