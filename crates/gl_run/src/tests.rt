@@ -208,7 +208,7 @@ fn said(alloc: Global, cards: &str, library: &str) -> Result<Vec<u8>, Memory> {
 
 /// A deck's cards behind line 4, and the refusal that is said.
 const DECKS: [(&str, &str); 8] = [
-    ("+ x\n", "1 LoosePlus line=5"),
+    ("r1 a b 1\n.ends\n", "8 LooseEnds line=6"),
     ("q1 c b e mod\n", "4 UnknownCard line=5 byte=113"),
     ("m1 out in vdd\n", "5 ShortCard line=5 has=4 needs=6"),
     ("r1 a b 1\nR1 c d 2\n", "13 DuplicateName line=6 first=5"),
