@@ -1,0 +1,16 @@
+//! Decks flattened: every device with its flat name and its nets, or the first refusal.
+#![tactic(auto)]
+
+mod expand;
+mod fault;
+mod flat;
+mod net;
+mod print;
+mod reached;
+mod scene;
+mod step;
+mod way;
+
+pub use fault::{FlatFault, What};
+pub use flat::{Flat, FlatDevice};
+pub use gl_deck::{Body, CallCard, Deck, DevCard, Head, Letter, Memory, ModelCard, Name, Sub, Tail};
