@@ -1,1 +1,4 @@
+pub mod ExpandLaws
 pub mod PrintingLaws
+pub mod SceneLaws
+pub mod WayLaws
