@@ -1,3 +1,4 @@
+pub mod Lengths
 pub mod Numbered
 pub mod Refusals
 pub mod Ways

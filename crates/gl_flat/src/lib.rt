@@ -4,6 +4,9 @@
 mod expand;
 mod fault;
 mod flat;
+mod length;
+mod named;
+mod naming;
 mod net;
 mod print;
 mod reached;

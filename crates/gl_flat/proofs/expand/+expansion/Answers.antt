@@ -1,6 +1,6 @@
 use Rattle.indexmap.specs.IndexMap.{values}
 use Rattle.gl_flat.specs.Ways.{place_of}
-use Rattle.gl_flat.proofs.ExpandLaws.{devices_more, of_device, of_call, of_nothing, of_none_more, of_callee}
+use Rattle.gl_flat.proofs.ExpandLaws.{devices_more}
 use Rattle.gl_flat.proofs.expand.+expansion.Goals as goal
 
 pub expand-loop-card-preserved : goal.expand-loop-card-preserved
