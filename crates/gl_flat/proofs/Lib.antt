@@ -1,5 +1,7 @@
 pub mod ExpandLaws
 pub mod LengthLaws
+pub mod LongLaws
 pub mod PrintingLaws
 pub mod SceneLaws
+pub mod SeenLaws
 pub mod WayLaws

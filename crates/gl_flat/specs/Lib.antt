@@ -1,4 +1,6 @@
 pub mod Lengths
+pub mod LongNames
 pub mod Numbered
 pub mod Refusals
+pub mod SeenNames
 pub mod Ways

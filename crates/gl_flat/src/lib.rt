@@ -5,12 +5,15 @@ mod expand;
 mod fault;
 mod flat;
 mod length;
+mod long;
 mod named;
 mod naming;
 mod net;
 mod print;
 mod reached;
+mod same;
 mod scene;
+mod seen;
 mod step;
 mod way;
 
