@@ -1,6 +1,9 @@
 //! Decks flattened: every device with its flat name and its nets, or the first refusal.
 #![tactic(auto)]
 
+mod chosen;
+mod clash;
+mod copy;
 mod expand;
 mod fault;
 mod flat;
@@ -9,6 +12,7 @@ mod long;
 mod named;
 mod naming;
 mod net;
+mod number;
 mod print;
 mod reached;
 mod same;

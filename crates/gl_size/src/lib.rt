@@ -1,0 +1,16 @@
+//! How many cards a deck expands to, and how deep, counted without expanding it.
+#![tactic(auto)]
+
+mod chains;
+mod counted;
+mod excess;
+mod limits;
+mod rounds;
+mod sizes;
+mod tally;
+#[cfg(test)]
+mod tests;
+
+pub use excess::{Excess, first_excess};
+pub use gl_deck::{Body, Name, Sub};
+pub use sizes::Sizes;

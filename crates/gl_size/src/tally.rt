@@ -1,0 +1,117 @@
+ghost use Rattle.std.specs.Prelude.{◌≡◌, [], ◌∷◌, IfOk, option_to_list};
+ghost use Rattle.indexmap.specs.IndexMap.{keys, values};
+ghost use Rattle.std.specs.List.{IsDistinct};
+ghost use Rattle.gl_text.specs.LogicalLines.{same_text};
+ghost use Rattle.gl_deck.specs.Bodies.{bodies_value, names_of};
+ghost use Rattle.gl_deck.specs.Levels.{place_in};
+ghost use Rattle.gl_size.specs.Tallies.{calls_of, own_in, tallies_of, tally_of};
+
+use crate::counted::Counted;
+use crate::{Body, Name, Sub};
+use indexmap::IndexMap;
+use std::alloc::{AllocError, Global};
+use std::marker::Model;
+
+/// What is kept of a subcircuit to count what it expands to.
+#[derive(Drop)]
+pub struct Tally {
+    /// Its devices and X cards, at most one more than there may be.
+    cards: u32,
+    /// Its devices, at most one more than there may be.
+    devices: u32,
+    /// For each of its X cards the place of the subcircuit that it calls, in order, if there is one.
+    calls: Vec<usize>,
+}
+
+impl Model for Tally {
+    ghost use Rattle.gl_size.specs.Tallies.{Tally as TallyValue};
+
+    ghost Value = { TallyValue };
+
+    ghost view = { λ t. record { cards = t.cards; devices = t.devices; calls = t.calls.items } };
+}
+
+impl Tally {
+    /// What is kept of a subcircuit of these cards.
+    fn of(alloc: Global, subs: &IndexMap<Name, Sub>, cards: &[Body]) -> Result<Tally, AllocError>
+        requires keyed { keys subs.now ≡ names_of (values subs.now) }
+        ensures tally { IfOk result (λ t. t ≡ tally_of (values subs.now) (bodies_value cards.now)) }
+    {
+        Ok(Tally {
+            cards: Counted::Cards.own_total(cards),
+            devices: Counted::Devices.own_total(cards),
+            calls: called_places(alloc, subs, cards)?,
+        })
+    }
+
+    /// What its cards count for themselves, at most one more than there may be.
+    pub fn own(&self, counted: Counted) -> u32
+        ensures own { result ≡ own_in counted self.now }
+    {
+        match counted {
+            Counted::Cards => self.cards,
+            Counted::Devices => self.devices,
+        }
+    }
+
+    /// The places of the subcircuits that it calls.
+    pub fn calls(&self) -> &[usize]
+        ensures calls { result.now ≡ self.now.calls }
+    {
+        &self.calls
+    }
+}
+
+/// Where the subcircuit of this name stands in the table.
+fn place_of(subs: &IndexMap<Name, Sub>, name: &Name) -> Option<usize>
+    requires keyed { keys subs.now ≡ names_of (values subs.now) }
+    ensures place { result ≡ place_in (values subs.now) name.now }
+{
+    subs.get_index_of(name)
+}
+
+/// Where the subcircuit that a card calls stands in the table.
+pub fn called_place(subs: &IndexMap<Name, Sub>, card: &Body) -> Option<usize>
+    requires keyed { keys subs.now ≡ names_of (values subs.now) }
+    ensures place { option_to_list result ≡ calls_of (values subs.now) (bodies_value (card.now ∷ [])) }
+{
+    match card {
+        Body::Dev(_, _) => None,
+        Body::Call(_, call) => place_of(subs, call.sub()),
+    }
+}
+
+/// The places of the subcircuits that cards call.
+fn called_places(
+    alloc: Global,
+    subs: &IndexMap<Name, Sub>,
+    cards: &[Body],
+) -> Result<Vec<usize>, AllocError>
+    requires keyed { keys subs.now ≡ names_of (values subs.now) }
+    ensures places { IfOk result (λ v. v.items ≡ calls_of (values subs.now) (bodies_value cards.now)) }
+{
+    let mut places = Vec::new(alloc);
+    let mut rest = cards;
+    while let [card, behind @ ..] = rest {
+        if let Some(place) = called_place(subs, card) {
+            places.push(place)?;
+        }
+        rest = behind;
+    }
+    Ok(places)
+}
+
+/// What is kept of each subcircuit.
+pub fn tallies(alloc: Global, subs: &IndexMap<Name, Sub>) -> Result<Vec<Tally>, AllocError>
+    requires keyed { keys subs.now ≡ names_of (values subs.now) }
+    ensures tallies { IfOk result (λ v. v.items ≡ tallies_of (values subs.now)) }
+    ensures names_differ { IfOk result (λ v. IsDistinct same_text (names_of (values subs.now))) }
+{
+    let mut tallies = Vec::with_capacity(alloc, subs.len())?;
+    let mut rest = subs.values().as_slice();
+    while let [sub, behind @ ..] = rest {
+        tallies.push(Tally::of(alloc, subs, sub.cards())?)?;
+        rest = behind;
+    }
+    Ok(tallies)
+}
