@@ -3,4 +3,5 @@ pub mod LongNames
 pub mod Numbered
 pub mod Refusals
 pub mod SeenNames
+pub mod Steps
 pub mod Ways

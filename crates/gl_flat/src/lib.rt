@@ -7,6 +7,7 @@ mod copy;
 mod expand;
 mod fault;
 mod flat;
+mod flattening;
 mod length;
 mod long;
 mod named;
@@ -23,4 +24,5 @@ mod way;
 
 pub use fault::{FlatFault, What};
 pub use flat::{Flat, FlatDevice};
+pub use flattening::flatten;
 pub use gl_deck::{Body, CallCard, Deck, DevCard, Head, Letter, Memory, ModelCard, Name, Sub, Tail};
