@@ -65,6 +65,9 @@ gives_same r v w e h = subst (λ x. Gives r x) e h
 
 -- ---- all steps
 
+abbrev picked : Option Head → List Body → Option Head × List Body
+picked head cards = (head, cards)
+
 pub steps_are : (deck : Deck) (rails : List (List ℕ)) (top : Option (List ℕ)) → stepwise deck rails top ≡ flatten deck rails top
 steps_are deck rails top = refl
 
@@ -79,13 +82,13 @@ choice_refuses o deck rails top h = choice_by o deck rails (chosen deck top) h
 
 -- what was chosen exceeds
 chosen_is : (deck : Deck) (rails : List (List ℕ)) (top : Option (List ℕ)) (head : Option Head) (cards : List Body) → chosen deck top ≡ Ok (head, cards)
-    → (or_else (excess_in deck.subs cards) (head, cards) >>= λ c. judged deck rails c.0 (flat_devices rails deck.subs DEPTH top_place c.1)) ≡ flatten deck rails top
+    → (or_else (excess_in deck.subs cards) (picked head cards) >>= λ c. judged deck rails c.0 (flat_devices rails deck.subs DEPTH top_place c.1)) ≡ flatten deck rails top
 chosen_is deck rails top head cards e = sym (ap (λ v. v >>= λ c. or_else (excess_in deck.subs c.1) c >>= λ c. judged deck rails c.0 (flat_devices rails deck.subs DEPTH top_place c.1)) e)
 
 excess_by : (o w : Option Fault) (deck : Deck) (rails : List (List ℕ)) (head : Option Head) (cards : List Body) → IsFound o w
-    → IsRefusal o (or_else w (head, cards) >>= λ c. judged deck rails c.0 (flat_devices rails deck.subs DEPTH top_place c.1))
+    → IsRefusal o (or_else w (picked head cards) >>= λ c. judged deck rails c.0 (flat_devices rails deck.subs DEPTH top_place c.1))
 excess_by None w deck rails head cards h = tt
-excess_by (Some g) w deck rails head cards h = ap (λ v. or_else v (head, cards) >>= λ c. judged deck rails c.0 (flat_devices rails deck.subs DEPTH top_place c.1)) h
+excess_by (Some g) w deck rails head cards h = ap (λ v. or_else v (picked head cards) >>= λ c. judged deck rails c.0 (flat_devices rails deck.subs DEPTH top_place c.1)) h
 
 pub excess_refuses : (o : Option Fault) (deck : Deck) (rails : List (List ℕ)) (top : Option (List ℕ)) (head : Option Head) (cards : List Body) → chosen deck top ≡ Ok (head, cards) → IsFound o (excess_in deck.subs cards) → IsRefusal o (flatten deck rails top)
 excess_refuses o deck rails top head cards e h = subst (λ v. IsRefusal o v) (chosen_is deck rails top head cards e) (excess_by o (excess_in deck.subs cards) deck rails head cards h)
@@ -94,4 +97,4 @@ excess_refuses o deck rails top head cards e h = subst (λ v. IsRefusal o v) (ch
 pub judged_is : (deck : Deck) (rails : List (List ℕ)) (top : Option (List ℕ)) (head : Option Head) (cards : List Body) (devices : List FlatDevice) → chosen deck top ≡ Ok (head, cards) → excess_in deck.subs cards ≡ None
     → devices ≡ flat_devices rails deck.subs DEPTH top_place cards → judged deck rails head devices ≡ flatten deck rails top
 judged_is deck rails top head cards devices e f g =
-    ap (judged deck rails head) g ∙ sym (ap (λ v. or_else v (head, cards) >>= λ c. judged deck rails c.0 (flat_devices rails deck.subs DEPTH top_place c.1)) f) ∙ chosen_is deck rails top head cards e
+    ap (judged deck rails head) g ∙ sym (ap (λ v. or_else v (picked head cards) >>= λ c. judged deck rails c.0 (flat_devices rails deck.subs DEPTH top_place c.1)) f) ∙ chosen_is deck rails top head cards e

@@ -20,6 +20,8 @@ mod same;
 mod scene;
 mod seen;
 mod step;
+#[cfg(test)]
+mod tests;
 mod way;
 
 pub use fault::{FlatFault, What};

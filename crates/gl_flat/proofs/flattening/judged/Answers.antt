@@ -34,4 +34,4 @@ returns c =
     let long : long_in (flat_map bearers ds) ≡ None = ap (λ x. long_in (flat_map bearers x)) (sym (c.deref-2.ensures.value ∙ c.in_ok-named.ensures.devices)) ∙ c.in_ok-refuse_long.ensures.ok in
     let clash : clash_in rails ports ds ≡ None =
     ap (λ x. clash_in rails ports x) (sym (c.deref-3.ensures.value ∙ c.in_ok-named.ensures.devices)) ∙ ap (λ x. clash_in rails x c.deref-3.result.now) (sym c.ports_of.ensures.ports) ∙ c.in_ok-refuse_clash.ensures.ok in
-    record { gives = (flat ds, (none_refuses (flat ds) (text_fault (flat ds)) (long_in (flat_map bearers ds)) (clash_in rails ports ds) text long clash, c.in_ok-flat_of.ensures.flat ∙ ap (λ x. numbered (flat x)) (c.deref-4.ensures.value ∙ c.in_ok-named.ensures.devices))) }
+    record { gives = (flat ds, none_refuses (flat ds) (text_fault (flat ds)) (long_in (flat_map bearers ds)) (clash_in rails ports ds) text long clash, c.in_ok-flat_of.ensures.flat ∙ ap (λ x. numbered (flat x)) (c.deref-4.ensures.value ∙ c.in_ok-named.ensures.devices)) }
