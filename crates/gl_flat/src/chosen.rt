@@ -37,7 +37,11 @@ fn choose_sub<'a>(alloc: Global, deck: &'a Deck, name: &Name) -> Result<Chosen<'
 }
 
 /// The cards outside subcircuits, or the subcircuit of a name as the top.
-pub fn choose<'a>(alloc: Global, deck: &'a Deck, top: Option<&Name>) -> Result<Chosen<'a>, FlatFault>
+pub fn choose<'a>(
+    alloc: Global,
+    deck: &'a Deck,
+    top: Option<&Name>,
+) -> Result<Chosen<'a>, FlatFault>
     ensures ok { IfOk result (λ c. flat.chosen deck.now (option_copied top.entry) ≡ Ok (option_copied c.head, bodies_value c.cards.now)) }
     ensures refused { IfErr result (λ fault. IsRefusal (fault_of fault) (flat.chosen deck.now (option_copied top.entry))) }
 {

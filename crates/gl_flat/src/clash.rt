@@ -23,11 +23,7 @@ fn add_top<'a>(alloc: Global, seen: &mut Seen<'a>, name: &'a Name) -> Result<(),
 }
 
 /// Adds nets of the top.
-fn add_tops<'a>(
-    alloc: Global,
-    seen: &mut Seen<'a>,
-    names: &'a [Name],
-) -> Result<(), FlatFault>
+fn add_tops<'a>(alloc: Global, seen: &mut Seen<'a>, names: &'a [Name]) -> Result<(), FlatFault>
     ensures ok { OnOk result (seen_all seen.old (map (λ n. net (top_net n)) names.now) ≡ Ok seen.new) }
     ensures refused { IfErr result (λ fault. IsRefusal (fault_of fault) (seen_all seen.old (map (λ n. net (top_net n)) names.now))) }
 {

@@ -88,7 +88,12 @@ fn refuse_excess(alloc: Global, subs: &IndexMap<Name, Sub>, cards: &[Body]) -> R
 }
 
 /// Refuses a flat deck whose text is too long.
-fn refuse_text(deck: &Deck, rails: &[Name], head: Option<&Head>, devices: &[Reached<'_>]) -> Result<(), FlatFault>
+fn refuse_text(
+    deck: &Deck,
+    rails: &[Name],
+    head: Option<&Head>,
+    devices: &[Reached<'_>],
+) -> Result<(), FlatFault>
     ensures ok { OnOk result (text_fault (flat_with deck.now rails.now (option_copied head.entry) devices.now) ≡ None) }
     ensures refused { IfErr result (λ fault. IsFound (fault_of fault) (text_fault (flat_with deck.now rails.now (option_copied head.entry) devices.now))) }
 {
@@ -121,7 +126,13 @@ fn ports_of<'a>(head: Option<&'a Head>) -> &'a [Name]
 }
 
 /// The flat deck of devices.
-fn flat_of(alloc: Global, deck: &Deck, rails: &[Name], head: Option<&Head>, devices: &[Named<'_>]) -> Result<Flat, AllocError>
+fn flat_of(
+    alloc: Global,
+    deck: &Deck,
+    rails: &[Name],
+    head: Option<&Head>,
+    devices: &[Named<'_>],
+) -> Result<Flat, AllocError>
     requires few { length (nets_of devices.now) < 2 ^ 32 }
     ensures flat { IfOk result (λ f. f ≡ numbered (flat_with deck.now rails.now (option_copied head.entry) devices.now)) }
 {
@@ -158,7 +169,11 @@ fn judged<'a>(
 }
 
 /// The devices of cards.
-fn expanded<'a>(alloc: Global, scene: &Scene<'a>, cards: &'a [Body]) -> Result<Vec<Reached<'a>>, AllocError>
+fn expanded<'a>(
+    alloc: Global,
+    scene: &Scene<'a>,
+    cards: &'a [Body],
+) -> Result<Vec<Reached<'a>>, AllocError>
     requires scene { IsScene scene.now }
     ensures devices { IfOk result (λ ds. ds.items ≡ flat.flat_devices scene.now.rails.now.keys (values scene.now.subs.now) flat.DEPTH flat.top_place (bodies_value cards.now)) }
 {
@@ -170,7 +185,12 @@ fn expanded<'a>(alloc: Global, scene: &Scene<'a>, cards: &'a [Body]) -> Result<V
 /// The flat deck: every device with its flat name and its nets, or the first refusal. The rails are the names that are global
 /// but `0`; with `top` the cards are those of the subcircuit of this name, taken as it is given, and its ports are the top's.
 #[tactic(none)]
-pub fn flatten(alloc: Global, deck: &Deck, rails: &[Name], top: Option<&Name>) -> Result<Flat, FlatFault>
+pub fn flatten(
+    alloc: Global,
+    deck: &Deck,
+    rails: &[Name],
+    top: Option<&Name>,
+) -> Result<Flat, FlatFault>
     requires sound { IsReadDeck deck.now }
     requires rails { AreRails rails.now }
     ensures gives { Gives result (flat.flatten deck.now rails.now (option_copied top.entry)) }

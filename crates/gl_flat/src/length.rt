@@ -220,7 +220,12 @@ fn add_passed(total: usize, texts: &[Vec<u8>]) -> usize
 }
 
 /// The length of a flat deck's text, or the largest count.
-pub fn text_length(deck: &Deck, rails: &[Name], head: Option<&Head>, devices: &[Reached<'_>]) -> usize
+pub fn text_length(
+    deck: &Deck,
+    rails: &[Name],
+    head: Option<&Head>,
+    devices: &[Reached<'_>],
+) -> usize
     ensures length { result ≡ after 0 (flat_text (record { title = deck.now.title; rails = rails.now; models = deck.now.models; top = option_copied head.entry; devices = devices.now; passed = deck.now.passed })) }
 {
     let titled = add_text(0, deck.title());

@@ -27,4 +27,6 @@ mod way;
 pub use fault::{FlatFault, What};
 pub use flat::{Flat, FlatDevice};
 pub use flattening::flatten;
-pub use gl_deck::{Body, CallCard, Deck, DevCard, Head, Letter, Memory, ModelCard, Name, Sub, Tail};
+pub use gl_deck::{
+    Body, CallCard, Deck, DevCard, Head, Letter, Memory, ModelCard, Name, Sub, Tail,
+};

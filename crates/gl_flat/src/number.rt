@@ -11,7 +11,11 @@ use indexmap::IndexSet;
 use std::alloc::{AllocError, Global};
 
 /// Adds the flat names of nets that are not there yet.
-fn add_names(alloc: Global, known: &mut IndexSet<Name>, nets: &[NamedNet<'_>]) -> Result<(), AllocError>
+fn add_names(
+    alloc: Global,
+    known: &mut IndexSet<Name>,
+    nets: &[NamedNet<'_>],
+) -> Result<(), AllocError>
     ensures added { OnOk result (known.new.keys ≡ insert_all same_text known.old.keys (map flat.net_name nets.now)) }
 {
     for net in nets {
@@ -21,7 +25,11 @@ fn add_names(alloc: Global, known: &mut IndexSet<Name>, nets: &[NamedNet<'_>]) -
 }
 
 /// Adds the flat names of devices' nets that are not there yet.
-fn add_all_names(alloc: Global, known: &mut IndexSet<Name>, devices: &[Named<'_>]) -> Result<(), AllocError>
+fn add_all_names(
+    alloc: Global,
+    known: &mut IndexSet<Name>,
+    devices: &[Named<'_>],
+) -> Result<(), AllocError>
     ensures added { OnOk result (known.new.keys ≡ insert_all same_text known.old.keys (flat_map (λ d. map flat.net_name d.nets) devices.now)) }
 {
     for device in devices {
@@ -51,7 +59,11 @@ fn number_of(nets: &IndexSet<Name>, name: &Name) -> u32
 }
 
 /// The numbers of nets.
-fn numbers_of(alloc: Global, known: &IndexSet<Name>, nets: &[NamedNet<'_>]) -> Result<Vec<u32>, AllocError>
+fn numbers_of(
+    alloc: Global,
+    known: &IndexSet<Name>,
+    nets: &[NamedNet<'_>],
+) -> Result<Vec<u32>, AllocError>
     requires few { length known.now.keys < 2 ^ 32 }
     ensures numbers { IfOk result (λ numbers. numbers.items ≡ map (λ n. number_in known.now.keys (flat.net_name n)) nets.now) }
 {
@@ -63,7 +75,11 @@ fn numbers_of(alloc: Global, known: &IndexSet<Name>, nets: &[NamedNet<'_>]) -> R
 }
 
 /// A device with its nets by their numbers.
-fn numbered(alloc: Global, known: &IndexSet<Name>, device: &Named<'_>) -> Result<FlatDevice, AllocError>
+fn numbered(
+    alloc: Global,
+    known: &IndexSet<Name>,
+    device: &Named<'_>,
+) -> Result<FlatDevice, AllocError>
     requires few { length known.now.keys < 2 ^ 32 }
     ensures device { IfOk result (λ d. d ≡ numbered_device known.now.keys device.now) }
 {
@@ -78,7 +94,11 @@ fn numbered(alloc: Global, known: &IndexSet<Name>, device: &Named<'_>) -> Result
 }
 
 /// Devices with their nets by their numbers.
-pub fn numbered_all(alloc: Global, known: &IndexSet<Name>, devices: &[Named<'_>]) -> Result<Vec<FlatDevice>, AllocError>
+pub fn numbered_all(
+    alloc: Global,
+    known: &IndexSet<Name>,
+    devices: &[Named<'_>],
+) -> Result<Vec<FlatDevice>, AllocError>
     requires few { length known.now.keys < 2 ^ 32 }
     ensures devices { IfOk result (λ ds. ds.items ≡ map (numbered_device known.now.keys) devices.now) }
 {

@@ -3,10 +3,10 @@ ghost use Rattle.gl_text.specs.Flattening as flat;
 ghost use Rattle.gl_flat.specs.Ways.{place_of, path_of};
 
 use crate::net::Net;
+use crate::reached::Reached;
 use crate::scene::is_rail;
 use crate::step::{Step, actual};
 use crate::{DevCard, Name};
-use crate::reached::Reached;
 use indexmap::IndexSet;
 use std::alloc::{AllocError, Global};
 
@@ -22,7 +22,11 @@ pub fn path_names<'a>(alloc: Global, way: &[Step<'a>]) -> Result<Vec<&'a Name>, 
 }
 
 /// One more X card on the way.
-pub fn longer<'a>(alloc: Global, way: &[Step<'a>], step: Step<'a>) -> Result<Vec<Step<'a>>, AllocError>
+pub fn longer<'a>(
+    alloc: Global,
+    way: &[Step<'a>],
+    step: Step<'a>,
+) -> Result<Vec<Step<'a>>, AllocError>
     ensures longer { IfOk result (λ longer. longer.items ≡ way.now ++ step.entry ∷ []) }
 {
     let mut longer = Vec::with_capacity(alloc, way.len() + 1)?;

@@ -15,6 +15,6 @@ returns t c =
     let way = c.args.way.now in
     let name = c.args.name.now in
     elim c.if-way-lt1.branch [
-      in_default w ↦ record { net = same_net c.own_net.result _ _ (first_leads rails way name w.in_default.len_below) c.own_net.ensures.net }
-    | in-len1-up+in_default-actual w ↦ record { net = same_net c.own_net.result _ _ (no_port_leads rails way _ w.step-item.result name (last_step way w.step-item.result w.in-len1-up.len_at_least w.step-item.is) w.in_default-actual.ensures.node) c.own_net.ensures.net }
+      | in_default w ↦ record { net = same_net c.own_net.result _ _ (first_leads rails way name w.in_default.len_below) c.own_net.ensures.net }
+      | in-len1-up+in_default-actual w ↦ record { net = same_net c.own_net.result _ _ (no_port_leads rails way _ w.step-item.result name (last_step way w.step-item.result w.in-len1-up.len_at_least w.step-item.is) w.in_default-actual.ensures.node) c.own_net.ensures.net }
     ]
