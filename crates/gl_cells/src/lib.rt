@@ -1,0 +1,6 @@
+//! Libraries of cells: what a library is, which refusals it has, the levels of its cells and which are skipped, as definitions and laws.
+#![tactic(auto)]
+
+mod laws;
+
+pub use laws::{level_rows, levels_and_skips_are_settled, limit_rows, refusal_rows, skip_rows};
