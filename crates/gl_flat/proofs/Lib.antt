@@ -1,0 +1,13 @@
+pub mod BoundLaws
+pub mod ChosenLaws
+pub mod ClashLaws
+pub mod ExpandLaws
+pub mod LengthLaws
+pub mod LongLaws
+pub mod NumberLaws
+pub mod PrintingLaws
+pub mod SceneLaws
+pub mod SeenLaws
+pub mod SoundLaws
+pub mod StepLaws
+pub mod WayLaws

@@ -1,0 +1,110 @@
+-- Flattening, put together from its steps.
+use Rattle.std.proofs.Common.{◌≡◌, ◌≤◌, ◌<◌, ◌+◌, ◌-◌, ◌^◌, ℕ, List, [], ◌∷◌, length, min, Bool, true, false, cond, ltb, Option, Some, None, Result, Ok, Err, refl, sym, ap, ◌∙◌, subst, map, flat_map, arith}
+use Rattle.std.specs.Result.{IsErrAnd}
+use Rattle.std.proofs.lemmas.Bool.{ltb-true, ltb-false, lt-ltb}
+use Rattle.gl_text.specs.LogicalLines.{Fault, long_text}
+use Rattle.gl_text.specs.Cards.{Head, when, or_else}
+use Rattle.gl_text.specs.Decks.{◌>>=◌, Body, Sub, Deck}
+use Rattle.gl_text.specs.Flattening.{DEPTH, TEXT, FlatDevice, Flat, flat_devices, flat_text, flatten, chosen, top_place, top_ports, bearers}
+use Rattle.gl_flat.specs.declared.fault.FlatFault.{FlatFault}
+use Rattle.gl_flat.specs.declared.fault.FlatFault.TheVariants as faults
+use Rattle.gl_flat.specs.Lengths.{after}
+use Rattle.gl_flat.specs.LongNames.{long_in}
+use Rattle.gl_flat.specs.Numbered.{Numbered, numbered}
+use Rattle.gl_flat.specs.Refusals.{Gives, IsFound, IsRefusal, fault_of}
+use Rattle.gl_flat.specs.Steps.{excess_in, flat_with, text_fault, clash_in, checked, judged, stepwise}
+
+-- ---- the text's length
+
+not_long : (n : ℕ) (b : Bool) → ltb TEXT n ≡ b → when b (long_text (TEXT + 1)) ≡ None → n ≤ TEXT
+not_long n true e h = absurd cc
+not_long n false e h = ltb-false TEXT n e
+
+pub short_text : (f : Flat) → text_fault f ≡ None → length (flat_text f) ≤ TEXT
+short_text f h = not_long (length (flat_text f)) (ltb TEXT (length (flat_text f))) refl h
+
+none_by : (n : ℕ) (b : Bool) → ltb TEXT n ≡ b → n ≤ TEXT → when b (long_text (TEXT + 1)) ≡ None
+none_by n true e h = let l = ltb-true TEXT n e in absurd (omega (arith, l, h))
+none_by n false e h = refl
+
+pub fits : (f : Flat) (n : ℕ) → n ≡ after 0 (flat_text f) → n ≤ TEXT → text_fault f ≡ None
+fits f n e h = none_by (length (flat_text f)) (ltb TEXT (length (flat_text f))) refl (let len = length (flat_text f) in omega (arith, e, h))
+
+pub too_long : (f : Flat) (n : ℕ) → n ≡ after 0 (flat_text f) → TEXT < n → text_fault f ≡ Some (long_text (TEXT + 1))
+too_long f n e h = ap (λ b. when b (long_text (TEXT + 1))) (lt-ltb TEXT (length (flat_text f)) (omega (arith, e, h)))
+
+-- ---- refusals
+
+refuses : (o w : Option Fault) (f : Flat) (k : Flat → Result Flat Fault) → IsFound o w → IsRefusal o (or_else w f >>= k)
+refuses None w f k h = tt
+refuses (Some g) w f k h = ap (λ v. or_else v f >>= k) h
+
+pub first_refuses : (o : Option Fault) (f : Flat) (a b c : Option Fault) → IsFound o a → IsRefusal o (checked f a b c)
+first_refuses o f a b c h = refuses o a f (λ g. or_else b g >>= λ x. or_else c x) h
+
+pub second_refuses : (o : Option Fault) (f : Flat) (a b c : Option Fault) → a ≡ None → IsFound o b → IsRefusal o (checked f a b c)
+second_refuses o f a b c e h = subst (λ v. IsRefusal o (checked f v b c)) (sym e) (refuses o b f (λ x. or_else c x) h)
+
+last_by : (o w : Option Fault) (f : Flat) → IsFound o w → IsRefusal o (or_else w f)
+last_by None w f h = tt
+last_by (Some g) w f h = ap (λ v. or_else v f) h
+
+pub third_refuses : (o : Option Fault) (f : Flat) (a b c : Option Fault) → a ≡ None → b ≡ None → IsFound o c → IsRefusal o (checked f a b c)
+third_refuses o f a b c e g h = subst (λ v. IsRefusal o (checked f v b c)) (sym e) (subst (λ v. IsRefusal o (checked f None v c)) (sym g) (last_by o c f h))
+
+pub none_refuses : (f : Flat) (a b c : Option Fault) → a ≡ None → b ≡ None → c ≡ None → checked f a b c ≡ Ok f
+none_refuses f a b c e g h = ap (λ v. checked f v b c) e ∙ ap (λ v. checked f None v c) g ∙ ap (λ v. checked f None None v) h
+
+-- an answer that passes a refusal on
+pub gives_refusal : (r : Result Numbered FlatFault) (f : FlatFault) (w : Result Flat Fault) → IsErrAnd r (λ e. e ≡ f) → IsRefusal (fault_of f) w → Gives r w
+gives_refusal (Ok v) f w e h = absurd e
+gives_refusal (Err g) f w e h = subst (λ x. IsRefusal (fault_of x) w) (sym e) h
+
+-- the same answer is given for an equal wish
+pub gives_same : (r : Result Numbered FlatFault) (v w : Result Flat Fault) → v ≡ w → Gives r v → Gives r w
+gives_same r v w e h = subst (λ x. Gives r x) e h
+
+-- ---- all steps
+
+abbrev picked : Option Head → List Body → Option Head × List Body
+picked head cards = (head, cards)
+
+pub steps_are : (deck : Deck) (rails : List (List ℕ)) (top : Option (List ℕ)) → stepwise deck rails top ≡ flatten deck rails top
+steps_are deck rails top = refl
+
+choice_by : (o : Option Fault) (deck : Deck) (rails : List (List ℕ)) (x : Result (Option Head × List Body) Fault) → IsRefusal o x
+    → IsRefusal o (x >>= λ c. or_else (excess_in deck.subs c.1) c >>= λ c. judged deck rails c.0 (flat_devices rails deck.subs DEPTH top_place c.1))
+choice_by None deck rails x h = tt
+choice_by (Some g) deck rails x h = ap (λ v. v >>= λ c. or_else (excess_in deck.subs c.1) c >>= λ c. judged deck rails c.0 (flat_devices rails deck.subs DEPTH top_place c.1)) h
+
+-- nothing is chosen
+pub choice_refuses : (o : Option Fault) (deck : Deck) (rails : List (List ℕ)) (top : Option (List ℕ)) → IsRefusal o (chosen deck top) → IsRefusal o (flatten deck rails top)
+choice_refuses o deck rails top h = choice_by o deck rails (chosen deck top) h
+
+-- what was chosen exceeds
+chosen_is : (deck : Deck) (rails : List (List ℕ)) (top : Option (List ℕ)) (head : Option Head) (cards : List Body) → chosen deck top ≡ Ok (head, cards)
+    → (or_else (excess_in deck.subs cards) (picked head cards) >>= λ c. judged deck rails c.0 (flat_devices rails deck.subs DEPTH top_place c.1)) ≡ flatten deck rails top
+chosen_is deck rails top head cards e = sym (ap (λ v. v >>= λ c. or_else (excess_in deck.subs c.1) c >>= λ c. judged deck rails c.0 (flat_devices rails deck.subs DEPTH top_place c.1)) e)
+
+excess_by : (o w : Option Fault) (deck : Deck) (rails : List (List ℕ)) (head : Option Head) (cards : List Body) → IsFound o w
+    → IsRefusal o (or_else w (picked head cards) >>= λ c. judged deck rails c.0 (flat_devices rails deck.subs DEPTH top_place c.1))
+excess_by None w deck rails head cards h = tt
+excess_by (Some g) w deck rails head cards h = ap (λ v. or_else v (picked head cards) >>= λ c. judged deck rails c.0 (flat_devices rails deck.subs DEPTH top_place c.1)) h
+
+pub excess_refuses : (o : Option Fault) (deck : Deck) (rails : List (List ℕ)) (top : Option (List ℕ)) (head : Option Head) (cards : List Body) → chosen deck top ≡ Ok (head, cards) → IsFound o (excess_in deck.subs cards) → IsRefusal o (flatten deck rails top)
+excess_refuses o deck rails top head cards e h = subst (λ v. IsRefusal o v) (chosen_is deck rails top head cards e) (excess_by o (excess_in deck.subs cards) deck rails head cards h)
+
+-- or it is judged
+pub judged_is : (deck : Deck) (rails : List (List ℕ)) (top : Option (List ℕ)) (head : Option Head) (cards : List Body) (devices : List FlatDevice) → chosen deck top ≡ Ok (head, cards) → excess_in deck.subs cards ≡ None
+    → devices ≡ flat_devices rails deck.subs DEPTH top_place cards → judged deck rails head devices ≡ flatten deck rails top
+judged_is deck rails top head cards devices e f g =
+    ap (judged deck rails head) g ∙ sym (ap (λ v. or_else v (picked head cards) >>= λ c. judged deck rails c.0 (flat_devices rails deck.subs DEPTH top_place c.1)) f) ∙ chosen_is deck rails top head cards e
+
+-- the devices of the same cards, by the same subcircuits and rails
+pub same_devices : (n : ℕ) (k rails : List (List ℕ)) (s t : List Sub) (cards : List Body) → k ≡ rails → s ≡ t → flat_devices k s n top_place cards ≡ flat_devices rails t n top_place cards
+same_devices n k rails s t cards e f = ap (λ x. flat_devices x s n top_place cards) e ∙ ap (λ x. flat_devices rails x n top_place cards) f
+
+-- want of memory may come in place of any answer
+pub no_memory : (r : Result Numbered FlatFault) (w : Result Flat Fault) → IsErrAnd r (λ e. e ≡ faults.Memory) → Gives r w
+no_memory (Ok v) w e = absurd e
+no_memory (Err g) w e = subst (λ x. IsRefusal (fault_of x) w) (sym e) tt

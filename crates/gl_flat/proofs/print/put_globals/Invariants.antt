@@ -1,0 +1,8 @@
+use Rattle.std.proofs.Common.{◌≡◌, ◌++◌, take, map}
+use Rattle.std.specs.Prelude.{flat_map}
+use Rattle.gl_card.specs.Lines.{spaced_all}
+use Rattle.gl_flat.specs.Numbered.{global_line, model_line, passed_line, device_line, name_at}
+use Rattle.gl_flat.proofs.print.put_globals.Given as goal
+
+abbrev pub invariant-loop-name : goal.invariant-loop-name
+invariant-loop-name l = l.out.items ≡ l.fn.out.items ++ flat_map global_line (take l.name-index l.names)

@@ -1,0 +1,40 @@
+-- What a refusal of the code means, and what flattening gives.
+use Rattle.std.specs.Prelude.{◌≡◌, ℕ, Option, Some, None, Result, Ok, Err, ⊤}
+use Rattle.gl_text.specs.LogicalLines as lines
+use Rattle.gl_text.specs.LogicalLines.{Fault}
+use Rattle.gl_text.specs.Flattening.{Flat}
+use Rattle.gl_flat.specs.Numbered.{Numbered, numbered}
+use Rattle.gl_flat.specs.declared.fault.What.{What}
+use Rattle.gl_flat.specs.declared.fault.What.TheVariants as what
+use Rattle.gl_flat.specs.declared.fault.FlatFault.{FlatFault}
+use Rattle.gl_flat.specs.declared.fault.FlatFault.TheVariants as faults
+
+abbrev pub too_many : What → ℕ → Fault
+too_many what.Cards number = lines.too_many_cards number
+too_many what.Devices number = lines.too_many_devices number
+
+-- the refusal, or nothing for want of memory
+abbrev pub fault_of : FlatFault → Option Fault
+fault_of (faults.NameClash name) = Some (lines.name_clash name)
+fault_of (faults.LongFlatName len) = Some (lines.long_flat_name len)
+fault_of (faults.TooMany kind number) = Some (too_many kind number)
+fault_of (faults.TooDeep number) = Some (lines.too_deep number)
+fault_of (faults.NoTop name) = Some (lines.no_top name)
+fault_of (faults.TopDevices line) = Some (lines.top_devices line)
+fault_of (faults.LongText number) = Some (lines.long_text number)
+fault_of faults.Memory = None
+
+-- the refusal that was given is this one; want of memory may come in place of any answer
+abbrev pub IsRefusal : {V : Type 0} → Option Fault → Result V Fault → Type 0
+IsRefusal None wanted = ⊤
+IsRefusal (Some fault) wanted = wanted ≡ Err fault
+
+-- the refusal that was given is the one that there is
+abbrev pub IsFound : Option Fault → Option Fault → Type 0
+IsFound None found = ⊤
+IsFound (Some fault) found = found ≡ Some fault
+
+-- a flat deck, numbered, exactly where there is one; else the refusal; want of memory may come in place of either
+abbrev pub Gives : Result Numbered FlatFault → Result Flat Fault → Type 0
+Gives (Ok v) wanted = (w : Flat) × (wanted ≡ Ok w) × (v ≡ numbered w)
+Gives (Err fault) wanted = IsRefusal (fault_of fault) wanted

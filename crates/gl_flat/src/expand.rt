@@ -1,0 +1,81 @@
+ghost use Rattle.std.specs.Prelude.{◌≡◌, ◌++◌, ◌∷◌, [], OnOk, IfOk};
+ghost use Rattle.indexmap.specs.IndexMap.{values};
+ghost use Rattle.gl_text.specs.Decks as decks;
+ghost use Rattle.gl_text.specs.Flattening as flat;
+ghost use Rattle.gl_deck.specs.Bodies.{bodies_value};
+ghost use Rattle.gl_flat.specs.Ways.{IsScene, place_of};
+
+use crate::reached::Reached;
+use crate::scene::{Scene, find};
+use crate::step::Step;
+use crate::way::{device_at, longer};
+use crate::{Body, CallCard};
+use std::alloc::{AllocError, Global};
+
+/// Adds the devices of an X card, through at most so many more X cards.
+#[cycle(expansion)]
+fn expand_call<'a>(
+    alloc: Global,
+    scene: &Scene<'a>,
+    depth: usize,
+    way: &[Step<'a>],
+    call: &'a CallCard,
+    out: &mut Vec<Reached<'a>>,
+) -> Result<(), AllocError>
+    requires scene { IsScene scene.now }
+    ensures ok { OnOk result (out.new.items ≡ out.old.items ++ flat.flat_devices scene.now.rails.now.keys (values scene.now.subs.now) depth (place_of scene.now.rails.now.keys way.now) (decks.call_at 0 call.now ∷ [])) }
+{
+    let Some(callee) = find(scene, call.sub()) else {
+        return Ok(());
+    };
+    if depth == 0 {
+        return Ok(());
+    }
+    let step = Step {
+        call,
+        ports: callee.ports,
+    };
+    let inner = longer(alloc, way, step)?;
+    expand(alloc, scene, depth - 1, &inner, callee.sub.cards(), out)
+}
+
+/// Adds the devices of a card, through at most so many more X cards.
+#[cycle(expansion)]
+fn expand_card<'a>(
+    alloc: Global,
+    scene: &Scene<'a>,
+    depth: usize,
+    way: &[Step<'a>],
+    card: &'a Body,
+    out: &mut Vec<Reached<'a>>,
+) -> Result<(), AllocError>
+    requires scene { IsScene scene.now }
+    ensures ok { OnOk result (out.new.items ≡ out.old.items ++ flat.flat_devices scene.now.rails.now.keys (values scene.now.subs.now) depth (place_of scene.now.rails.now.keys way.now) (bodies_value (card.now ∷ []))) }
+{
+    match card {
+        Body::Dev(_, card) => {
+            out.push(device_at(alloc, scene.rails, way, card)?)?;
+            Ok(())
+        }
+        Body::Call(_, call) => expand_call(alloc, scene, depth, way, call, out),
+    }
+}
+
+/// Adds the devices of cards, through at most so many more X cards.
+#[cycle(expansion)]
+pub fn expand<'a>(
+    alloc: Global,
+    scene: &Scene<'a>,
+    depth: usize,
+    way: &[Step<'a>],
+    cards: &'a [Body],
+    out: &mut Vec<Reached<'a>>,
+) -> Result<(), AllocError>
+    requires scene { IsScene scene.now }
+    ensures ok { OnOk result (out.new.items ≡ out.old.items ++ flat.flat_devices scene.now.rails.now.keys (values scene.now.subs.now) depth (place_of scene.now.rails.now.keys way.now) (bodies_value cards.now)) }
+{
+    for card in cards {
+        expand_card(alloc, scene, depth, way, card, out)?;
+    }
+    Ok(())
+}

@@ -1,0 +1,239 @@
+ghost use Rattle.std.specs.Prelude.{◌≡◌, ◌≤◌, ◌<◌, ◌^◌, ◌∷◌, [], Some, None, length, map, flat_map, codes, OnOk, IfOk, IfErr};
+ghost use Rattle.std.specs.Option.{option_copied};
+ghost use Rattle.indexmap.specs.IndexMap.{keys, values};
+ghost use Rattle.gl_text.specs.Decks.{once};
+ghost use Rattle.gl_text.specs.Flattening as flat;
+ghost use Rattle.gl_text.specs.Flattening.{TEXT as MOST_TEXT, flat_text, bearers, top_ports};
+ghost use Rattle.gl_printed.specs.FlatDecks.{AreRails};
+ghost use Rattle.gl_printed.specs.ReadDecks.{IsReadDeck};
+ghost use Rattle.gl_deck.specs.Bodies.{bodies_value, names_of};
+ghost use Rattle.gl_size.specs.Excesses.{fault_of_excess};
+ghost use Rattle.gl_flat.specs.LongNames.{AreCountable, long_in};
+ghost use Rattle.gl_flat.specs.Numbered.{nets_of, numbered};
+ghost use Rattle.gl_flat.specs.Refusals.{Gives, IsFound, fault_of};
+ghost use Rattle.gl_flat.specs.Steps.{all_devices, devices_in, excess_in, flat_with, judged as judged_by, text_fault};
+ghost use Rattle.gl_flat.specs.Ways.{IsScene};
+
+use crate::chosen::{Chosen, choose};
+use crate::clash::refuse_clash;
+use crate::copy::{model_copies, name_copies, name_copy, text_copies, top_copy};
+use crate::expand::expand;
+use crate::length::text_length;
+use crate::long::first_long;
+use crate::named::Named;
+use crate::naming::named_devices;
+use crate::number::{net_names, numbered_all};
+use crate::reached::Reached;
+use crate::scene::Scene;
+use crate::{Body, Deck, Flat, FlatFault, Head, Name, Sub, What};
+use gl_size::{Excess, first_excess};
+use indexmap::{IndexMap, IndexSet};
+use std::alloc::{AllocError, Global};
+
+/// The most X cards in a chain.
+const DEPTH: usize = 32;
+
+/// The most bytes of a flat deck's text.
+const TEXT: usize = 67_108_864;
+
+/// Each of the names once.
+fn name_set(alloc: Global, names: &[Name]) -> Result<IndexSet<Name>, AllocError>
+    ensures names { IfOk result (λ set. set.keys ≡ once names.now) }
+{
+    let mut set = IndexSet::new(alloc);
+    for name in names {
+        set.insert(name_copy(alloc, name)?)?;
+    }
+    Ok(set)
+}
+
+/// The ports of subcircuits, by their places.
+fn port_sets(alloc: Global, subs: &[Sub]) -> Result<Vec<IndexSet<Name>>, AllocError>
+    ensures ports { IfOk result (λ sets. map (λ s. s.keys) sets.items ≡ map (λ s. once s.head.ports) subs.now) }
+{
+    let mut sets = Vec::with_capacity(alloc, subs.len())?;
+    for sub in subs {
+        sets.push(name_set(alloc, sub.head().ports())?)?;
+    }
+    Ok(sets)
+}
+
+/// The refusal of a deck that expands to too much.
+fn excess_fault(excess: Excess) -> FlatFault
+    ensures fault { fault_of result ≡ Some (fault_of_excess excess) }
+{
+    match excess {
+        Excess::TooDeep => FlatFault::TooDeep { number: 33 },
+        Excess::TooManyCards => FlatFault::TooMany {
+            what: What::Cards,
+            number: 400_001,
+        },
+        Excess::TooManyDevices => FlatFault::TooMany {
+            what: What::Devices,
+            number: 200_001,
+        },
+    }
+}
+
+/// Refuses cards that expand too deep, or to too many cards or devices.
+fn refuse_excess(alloc: Global, subs: &IndexMap<Name, Sub>, cards: &[Body]) -> Result<(), FlatFault>
+    requires keyed { keys subs.now ≡ names_of (values subs.now) }
+    ensures ok { OnOk result (excess_in (values subs.now) (bodies_value cards.now) ≡ None) }
+    ensures refused { IfErr result (λ fault. IsFound (fault_of fault) (excess_in (values subs.now) (bodies_value cards.now))) }
+{
+    match first_excess(alloc, subs, cards)? {
+        Some(excess) => Err(excess_fault(excess)),
+        None => Ok(()),
+    }
+}
+
+/// Refuses a flat deck whose text is too long.
+fn refuse_text(
+    deck: &Deck,
+    rails: &[Name],
+    head: Option<&Head>,
+    devices: &[Reached<'_>],
+) -> Result<(), FlatFault>
+    ensures ok { OnOk result (text_fault (flat_with deck.now rails.now (option_copied head.entry) devices.now) ≡ None) }
+    ensures refused { IfErr result (λ fault. IsFound (fault_of fault) (text_fault (flat_with deck.now rails.now (option_copied head.entry) devices.now))) }
+{
+    if text_length(deck, rails, head, devices) > TEXT {
+        return Err(FlatFault::LongText { number: 67_108_865 });
+    }
+    Ok(())
+}
+
+/// Refuses the first flat name that is too long.
+fn refuse_long(devices: &[Named<'_>]) -> Result<(), FlatFault>
+    requires short { AreCountable (flat_map bearers devices.now) }
+    ensures ok { OnOk result (long_in (flat_map bearers devices.now) ≡ None) }
+    ensures refused { IfErr result (λ fault. IsFound (fault_of fault) (long_in (flat_map bearers devices.now))) }
+{
+    match first_long(devices) {
+        Some(len) => Err(FlatFault::LongFlatName { len }),
+        None => Ok(()),
+    }
+}
+
+/// The ports of the top.
+fn ports_of<'a>(head: Option<&'a Head>) -> &'a [Name]
+    ensures ports { result.now ≡ top_ports (option_copied head.entry) }
+{
+    match head {
+        Some(head) => head.ports(),
+        None => &[],
+    }
+}
+
+/// The flat deck of devices.
+fn flat_of(
+    alloc: Global,
+    deck: &Deck,
+    rails: &[Name],
+    head: Option<&Head>,
+    devices: &[Named<'_>],
+) -> Result<Flat, AllocError>
+    requires few { length (nets_of devices.now) < 2 ^ 32 }
+    ensures flat { IfOk result (λ f. f ≡ numbered (flat_with deck.now rails.now (option_copied head.entry) devices.now)) }
+{
+    let nets = net_names(alloc, devices)?;
+    let numbered = numbered_all(alloc, &nets, devices)?;
+    Ok(Flat {
+        title: Vec::from_slice(alloc, deck.title())?,
+        rails: name_copies(alloc, rails)?,
+        models: model_copies(alloc, deck.models())?,
+        top: top_copy(alloc, head)?,
+        nets: nets.into_iter().collect(alloc)?,
+        devices: numbered,
+        passed: text_copies(alloc, deck.passed())?,
+    })
+}
+
+/// The flat deck of devices, or its first refusal.
+fn judged<'a>(
+    alloc: Global,
+    zero: &'a Name,
+    deck: &Deck,
+    rails: &'a [Name],
+    head: Option<&'a Head>,
+    devices: Vec<Reached<'a>>,
+) -> Result<Flat, FlatFault>
+    requires zero { zero.now ≡ codes "0" }
+    ensures gives { Gives result (judged_by deck.now rails.now (option_copied head.entry) devices.entry.items) }
+{
+    refuse_text(deck, rails, head, &devices)?;
+    let named = named_devices(alloc, devices)?;
+    refuse_long(&named)?;
+    refuse_clash(alloc, zero, rails, ports_of(head), &named)?;
+    Ok(flat_of(alloc, deck, rails, head, &named)?)
+}
+
+/// The devices of cards.
+fn expanded<'a>(
+    alloc: Global,
+    scene: &Scene<'a>,
+    cards: &'a [Body],
+) -> Result<Vec<Reached<'a>>, AllocError>
+    requires scene { IsScene scene.now }
+    ensures devices { IfOk result (λ ds. ds.items ≡ devices_in scene.now cards.now) }
+{
+    let mut devices = Vec::new(alloc);
+    expand(alloc, scene, DEPTH, &[], cards, &mut devices)?;
+    Ok(devices)
+}
+
+/// The flat deck of cards, or its first refusal.
+fn flat_of_cards<'a>(
+    alloc: Global,
+    scene: &Scene<'a>,
+    zero: &'a Name,
+    deck: &Deck,
+    rails: &'a [Name],
+    chosen: Chosen<'a>,
+) -> Result<Flat, FlatFault>
+    requires zero { zero.now ≡ codes "0" }
+    requires scene { IsScene scene.now }
+    ensures gives { Gives result (judged_by deck.now rails.now (option_copied chosen.entry.head) (devices_in scene.now chosen.entry.cards.now)) }
+{
+    let devices = expanded(alloc, scene, chosen.cards)?;
+    judged(alloc, zero, deck, rails, chosen.head, devices)
+}
+
+/// The flat deck of what is chosen, or its first refusal.
+fn flat_of_chosen(
+    alloc: Global,
+    deck: &Deck,
+    rails: &[Name],
+    chosen: Chosen<'_>,
+) -> Result<Flat, FlatFault>
+    requires sound { IsReadDeck deck.now }
+    requires rails { AreRails rails.now }
+    ensures gives { Gives result (judged_by deck.now rails.now (option_copied chosen.entry.head) (all_devices deck.now rails.now (bodies_value chosen.entry.cards.now))) }
+{
+    let zero = Name::of(alloc, b"0")?;
+    let ports = port_sets(alloc, deck.subs().values().as_slice())?;
+    let known = name_set(alloc, rails)?;
+    let scene = Scene {
+        subs: deck.subs(),
+        ports: &ports,
+        rails: &known,
+    };
+    flat_of_cards(alloc, &scene, &zero, deck, rails, chosen)
+}
+
+/// The flat deck: every device with its flat name and its nets, or the first refusal. The rails are the names that are global
+/// but `0`; with `top` the cards are those of the subcircuit of this name, taken as it is given, and its ports are the top's.
+pub fn flatten(
+    alloc: Global,
+    deck: &Deck,
+    rails: &[Name],
+    top: Option<&Name>,
+) -> Result<Flat, FlatFault>
+    requires sound { IsReadDeck deck.now }
+    requires rails { AreRails rails.now }
+    ensures gives { Gives result (flat.flatten deck.now rails.now (option_copied top.entry)) }
+{
+    let chosen = choose(alloc, deck, top)?;
+    refuse_excess(alloc, deck.subs(), chosen.cards)?;
+    flat_of_chosen(alloc, deck, rails, chosen)
+}

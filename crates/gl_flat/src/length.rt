@@ -1,0 +1,237 @@
+ghost use Rattle.std.specs.Prelude.{◌≡◌, ◌∷◌, [], map, flat_map, option_to_list, Some};
+ghost use Rattle.std.specs.Option.{option_copied};
+ghost use Rattle.gl_text.specs.Cards as cards;
+ghost use Rattle.gl_text.specs.Cards.{spaced};
+ghost use Rattle.gl_text.specs.Decks.{line_of};
+ghost use Rattle.gl_text.specs.Flattening as flat;
+ghost use Rattle.gl_text.specs.Flattening.{path_text, around, flat_text};
+ghost use Rattle.gl_card.specs.Lines.{spaced_all};
+ghost use Rattle.gl_flat.specs.Lengths.{after, flat_line};
+ghost use Rattle.gl_flat.specs.Numbered.{global_line, model_line, passed_line};
+
+use crate::net::Net;
+use crate::reached::Reached;
+use crate::{Deck, DevCard, Head, ModelCard, Name};
+
+/// Adds a text's length. A count that would be too large stays at the largest.
+fn add(total: usize, text: &[u8]) -> usize
+    ensures total { result ≡ after total text.now }
+{
+    total.saturating_add(text.len())
+}
+
+/// Adds the length of a space and a word.
+fn add_word(total: usize, word: &[u8]) -> usize
+    ensures total { result ≡ after total (32 ∷ word.now) }
+{
+    add(add(total, b" "), word)
+}
+
+/// Adds the length of an X card's part of a path.
+fn add_step(total: usize, name: &Name) -> usize
+    ensures total { result ≡ after total (path_text (name.now ∷ [])) }
+{
+    add(add(total, name.as_bytes()), b".")
+}
+
+/// Adds the length of a path.
+fn add_path(total: usize, path: &[&Name]) -> usize
+    ensures total { result ≡ after total (path_text (map (λ n. n.now) path.now)) }
+{
+    let mut sum = total;
+    for name in path {
+        sum = add_step(sum, name);
+    }
+    sum
+}
+
+/// Adds the length of a net's flat name.
+fn add_net(total: usize, net: &Net<'_>) -> usize
+    ensures total { result ≡ after total (flat.net_name net.now) }
+{
+    add(add_path(total, &net.path), net.name.as_bytes())
+}
+
+/// Adds the length of a device's flat name.
+fn add_own(total: usize, device: &Reached<'_>) -> usize
+    ensures total { result ≡ after total (flat.device_name device.now) }
+{
+    let name = device.card.name().as_bytes();
+    if device.path.is_empty() {
+        return add(total, name);
+    }
+    add(add_path(add(total, b"m."), &device.path), name)
+}
+
+/// Adds the length of a space and a net's flat name.
+fn add_node(total: usize, net: &Net<'_>) -> usize
+    ensures total { result ≡ after total (spaced_all (flat.net_name net.now ∷ [])) }
+{
+    add_net(add(total, b" "), net)
+}
+
+/// Adds the lengths of spaces and nets' flat names.
+fn add_nodes(total: usize, nets: &[Net<'_>]) -> usize
+    ensures total { result ≡ after total (spaced_all (map flat.net_name nets.now)) }
+{
+    let mut sum = total;
+    for net in nets {
+        sum = add_node(sum, net);
+    }
+    sum
+}
+
+/// Adds the length of a space and a word, if there is a word.
+fn add_option(total: usize, word: Option<&Name>) -> usize
+    ensures total { result ≡ after total (spaced_all (option_to_list (option_copied word.entry))) }
+{
+    match word {
+        Some(word) => add_word(total, word.as_bytes()),
+        None => total,
+    }
+}
+
+/// Adds the length of a space and a tail, if it is not empty.
+fn add_tail(total: usize, tail: &[u8]) -> usize
+    ensures total { result ≡ after total (spaced tail.now) }
+{
+    if tail.is_empty() {
+        return total;
+    }
+    add_word(total, tail)
+}
+
+/// Adds the length of a device's line.
+fn add_device(total: usize, device: &Reached<'_>) -> usize
+    ensures total { result ≡ after total (flat_line device.now) }
+{
+    let named = add_own(total, device);
+    let placed = add_nodes(named, &device.nets);
+    let modelled = add_option(placed, device.card.model());
+    let tailed = add_tail(modelled, device.card.tail().as_bytes());
+    add(tailed, b"\n")
+}
+
+/// Adds the lengths of devices' lines.
+fn add_devices(total: usize, devices: &[Reached<'_>]) -> usize
+    ensures total { result ≡ after total (flat_map flat_line devices.now) }
+{
+    let mut sum = total;
+    for device in devices {
+        sum = add_device(sum, device);
+    }
+    sum
+}
+
+/// Adds the length of a rail's card.
+fn add_rail(total: usize, name: &Name) -> usize
+    ensures total { result ≡ after total (global_line name.now) }
+{
+    add(add(add(total, b".global "), name.as_bytes()), b"\n")
+}
+
+/// Adds the lengths of the rails' cards.
+fn add_rails(total: usize, names: &[Name]) -> usize
+    ensures total { result ≡ after total (flat_map global_line names.now) }
+{
+    let mut sum = total;
+    for name in names {
+        sum = add_rail(sum, name);
+    }
+    sum
+}
+
+/// Adds the length of a model's card.
+fn add_model(total: usize, model: &ModelCard) -> usize
+    ensures total { result ≡ after total (model_line model.now) }
+{
+    let named = add_word(add(total, b".model"), model.name().as_bytes());
+    let typed = add_word(named, model.word().as_bytes());
+    add(add_tail(typed, model.tail().as_bytes()), b"\n")
+}
+
+/// Adds the lengths of models' cards.
+fn add_models(total: usize, models: &[ModelCard]) -> usize
+    ensures total { result ≡ after total (flat_map model_line models.now) }
+{
+    let mut sum = total;
+    for model in models {
+        sum = add_model(sum, model);
+    }
+    sum
+}
+
+/// Adds the lengths of spaces and words.
+fn add_words(total: usize, words: &[Name]) -> usize
+    ensures total { result ≡ after total (spaced_all words.now) }
+{
+    let mut sum = total;
+    for word in words {
+        sum = add_word(sum, word.as_bytes());
+    }
+    sum
+}
+
+/// Adds the length of the card that opens the top subcircuit.
+fn add_head(total: usize, head: &Head) -> usize
+    ensures total { result ≡ after total (line_of (cards.subckt head.now)) }
+{
+    let named = add_word(add(total, b".subckt"), head.name().as_bytes());
+    add(add_words(named, head.ports()), b"\n")
+}
+
+/// Adds the length of the card that closes the top subcircuit.
+fn add_ends(total: usize, name: &Name) -> usize
+    ensures total { result ≡ after total (line_of (cards.ends (Some name.now))) }
+{
+    add(add(add(total, b".ends "), name.as_bytes()), b"\n")
+}
+
+/// Adds the lengths of devices' lines, between the cards of the top subcircuit if there is one.
+fn add_around(total: usize, head: Option<&Head>, devices: &[Reached<'_>]) -> usize
+    ensures total { result ≡ after total (around (option_copied head.entry) (flat_map flat_line devices.now)) }
+{
+    match head {
+        None => add_devices(total, devices),
+        Some(head) => {
+            let opened = add_head(total, head);
+            let filled = add_devices(opened, devices);
+            add_ends(filled, head.name())
+        }
+    }
+}
+
+/// Adds the length of a text's line.
+fn add_text(total: usize, text: &[u8]) -> usize
+    ensures total { result ≡ after total (passed_line text.now) }
+{
+    add(add(total, text), b"\n")
+}
+
+/// Adds the lengths of the lines of cards that are carried along.
+fn add_passed(total: usize, texts: &[Vec<u8>]) -> usize
+    ensures total { result ≡ after total (flat_map passed_line (map (λ t. t.items) texts.now)) }
+{
+    let mut sum = total;
+    for text in texts {
+        sum = add_text(sum, text);
+    }
+    sum
+}
+
+/// The length of a flat deck's text, or the largest count.
+pub fn text_length(
+    deck: &Deck,
+    rails: &[Name],
+    head: Option<&Head>,
+    devices: &[Reached<'_>],
+) -> usize
+    ensures length { result ≡ after 0 (flat_text (record { title = deck.now.title; rails = rails.now; models = deck.now.models; top = option_copied head.entry; devices = devices.now; passed = deck.now.passed })) }
+{
+    let titled = add_text(0, deck.title());
+    let railed = add_rails(titled, rails);
+    let modelled = add_models(railed, deck.models());
+    let filled = add_around(modelled, head, devices);
+    let passed = add_passed(filled, deck.passed());
+    add_text(passed, b".end")
+}

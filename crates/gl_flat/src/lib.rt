@@ -1,0 +1,32 @@
+//! Decks flattened: every device with its flat name and its nets, or the first refusal.
+#![tactic(auto)]
+
+mod chosen;
+mod clash;
+mod copy;
+mod expand;
+mod fault;
+mod flat;
+mod flattening;
+mod length;
+mod long;
+mod named;
+mod naming;
+mod net;
+mod number;
+mod print;
+mod reached;
+mod same;
+mod scene;
+mod seen;
+mod step;
+#[cfg(test)]
+mod tests;
+mod way;
+
+pub use fault::{FlatFault, What};
+pub use flat::{Flat, FlatDevice};
+pub use flattening::flatten;
+pub use gl_deck::{
+    Body, CallCard, Deck, DevCard, Head, Letter, Memory, ModelCard, Name, Sub, Tail,
+};

@@ -1,0 +1,23 @@
+use crate::net::Net;
+use crate::{DevCard, Name};
+use std::marker::Model;
+
+/// A device that is reached. Contracts see it as the X cards on the way, its card, and its nets.
+#[derive(Drop)]
+pub struct Reached<'a> {
+    /// The names of the X cards, the outermost first.
+    pub path: Vec<&'a Name>,
+    /// Its card.
+    pub card: &'a DevCard,
+    /// Its nets, place by place.
+    pub nets: Vec<Net<'a>>,
+}
+
+impl<'a> Model for Reached<'a> {
+    ghost use Rattle.std.specs.Prelude.{map};
+    ghost use Rattle.gl_text.specs.Flattening.{FlatDevice as DeviceValue};
+
+    ghost Value = { DeviceValue };
+
+    ghost view = { λ d. record { path = map (λ x. x.now) d.path.items; card = d.card.now; nets = d.nets.items } };
+}
