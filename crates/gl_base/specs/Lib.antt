@@ -4,3 +4,4 @@ pub mod BaseCircuit
 pub mod Patterns
 pub mod Rows
 pub mod Reports
+pub mod Libraries

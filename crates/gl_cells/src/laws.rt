@@ -3,7 +3,7 @@ ghost use Rattle.std.specs.Prelude.{◌≡◌, ◌<◌, ℕ, List, length, is_so
 ghost use Rattle.gl_text.specs.LogicalLines.{loose_ends};
 ghost use Rattle.gl_text.specs.Decks.{Sub, callees, find_sub};
 ghost use Rattle.gl_text.specs.Levels.{Down};
-ghost use Rattle.gl_cells.specs.Libraries.{above, greatest, level_of, skip_by, skip_of, Cell, Library, read_library, refused, top_card, cell_limit, cell_clash, cells, devices, ports, level, flat, cells_cause, limit_cause, library_cause, first_cause, empty, loose, uses};
+ghost use Rattle.gl_base.specs.Libraries.{above, greatest, level_of, skip_by, skip_of, Cell, Library, read_library, refused, top_card, cell_limit, cell_clash, cells, devices, ports, level, flat, cells_cause, limit_cause, library_cause, first_cause, empty, loose, uses};
 ghost use Rattle.gl_cells.specs.Samples.{resistor, caller, cell_named};
 
 /// Where calls go down by a rank below the number of cells, a cell's level is one more than the greatest level that it calls,

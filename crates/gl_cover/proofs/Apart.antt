@@ -6,7 +6,7 @@ use Rattle.std.proofs.lemmas.List.FromFn.{length-range_with_len}
 use Rattle.std.proofs.lemmas.List.Sums.{sum_by-cons}
 use Rattle.gl_match.specs.declared.role.Pick.{Pick}
 use Rattle.gl_match.specs.declared.role.Pick.TheVariants.{Taken, Over}
-use Rattle.gl_cover.specs.Choice.{IsChoice, IsChosen, Meet, is_taken, joined, numbers_of}
+use Rattle.gl_match.specs.Choice.{IsChoice, IsChosen, Meet, is_taken, joined, numbers_of}
 
 pub apart : (first : ℕ) (lists : List (List (List ℕ))) (picks : List (List Pick)) → IsChoice first lists picks → (i j k l : ℕ) → IsChosen (joined picks) i k → IsChosen (joined picks) j l → Meet (joined lists) i j → i ≡ j
 apart first lists picks h i j k l f g meet = elim (cases_eq i j) [

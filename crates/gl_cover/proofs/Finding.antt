@@ -5,7 +5,7 @@ use Rattle.std.specs.List.{filter_map, cons_option}
 use Rattle.std.proofs.lemmas.Bool.{both_ways, eqb-true, cases_Bool, cases_lt, le-leb, lt-leb, or_left, or_right, or_parts, cond-true, cond-false}
 use Rattle.gl_match.specs.Graph.{is_in}
 use Rattle.gl_cover.specs.Owners.{owner_at, lesser_number, least_owner}
-use Rattle.gl_cover.specs.Picks.{first_that, meets}
+use Rattle.gl_match.specs.Picks.{first_that, meets}
 
 -- the number of the first of some sets, numbered from n on, that has the device
 abbrev pub owner_of : ℕ → List (List ℕ) → ℕ → Option ℕ

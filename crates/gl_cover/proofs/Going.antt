@@ -3,7 +3,7 @@ use Rattle.std.proofs.Common.{◌≡◌, ◌∙◌, ◌+◌, ◌<◌, ◌++◌, 
 use Rattle.std.specs.Prelude.{fold}
 use Rattle.std.proofs.lemmas.List.{take_more}
 use Rattle.std.proofs.lemmas.List.Sums.{fold_more}
-use Rattle.gl_cover.specs.Picks.{chosen_after, chosen_after_all, pick_after, picks_after, picks_by_list}
+use Rattle.gl_match.specs.Picks.{chosen_after, chosen_after_all, pick_after, picks_after, picks_by_list}
 
 pub picks_push : (first : ℕ) (chosen sets : List (List ℕ)) (set : List ℕ) → picks_after first chosen (sets ++ set ∷ []) ≡ picks_after first chosen sets ++ pick_after first (chosen_after_all first chosen sets) set ∷ []
 picks_push first chosen [] set = refl

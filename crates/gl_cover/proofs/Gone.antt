@@ -8,8 +8,8 @@ use Rattle.std.proofs.lemmas.List.Sums.{sum_by_push}
 use Rattle.std.proofs.lemmas.Option.{slice_get_within}
 use Rattle.gl_match.specs.declared.role.Pick.{Pick}
 use Rattle.gl_match.specs.declared.role.Pick.TheVariants.{Taken, Over}
-use Rattle.gl_cover.specs.Choice.{IsChosen, IsNext, IsOver, IsPicked, is_taken, joined, set_at}
-use Rattle.gl_cover.specs.Picks.{chosen_after, chosen_after_all, first_that, meets, over_or, pick_after, picks_after, picks_by_list}
+use Rattle.gl_match.specs.Choice.{IsChosen, IsNext, IsOver, IsPicked, is_taken, joined, set_at}
+use Rattle.gl_match.specs.Picks.{chosen_after, chosen_after_all, first_that, meets, over_or, pick_after, picks_after, picks_by_list}
 use Rattle.gl_cover.proofs.OneMore.{pick_cases, pick_new, pick_old, set_new, set_old}
 use Rattle.gl_cover.proofs.Shared.{Share, first_passes, meets_if, meets_says, none_passes}
 

@@ -6,8 +6,8 @@ use Rattle.std.proofs.lemmas.List.{drop_at, length-append, take_all, take_at, ta
 use Rattle.std.proofs.lemmas.Option.{slice_get-get_or}
 use Rattle.gl_match.specs.declared.role.Pick.{Pick}
 use Rattle.gl_match.specs.declared.role.Pick.TheVariants.{Taken, Over}
-use Rattle.gl_cover.specs.Choice.{IsChoice, IsChosen, IsPicked, is_taken, joined}
-use Rattle.gl_cover.specs.Picks.{chosen_after, chosen_after_all, picks_after, picks_by_list, picks_of}
+use Rattle.gl_match.specs.Choice.{IsChoice, IsChosen, IsPicked, is_taken, joined}
+use Rattle.gl_match.specs.Picks.{chosen_after, chosen_after_all, picks_after, picks_by_list, picks_of}
 use Rattle.gl_cover.proofs.Gone.{picks_gone}
 
 -- ---- the picks are a choice

@@ -3,7 +3,7 @@ use Rattle.std.proofs.Common.{◌≡◌, ◌<◌, ◌++◌, ◌∷◌, [], ℕ, 
 use Rattle.std.specs.Prelude.{◌⊎◌, slice_get}
 use Rattle.std.proofs.lemmas.List.{get_or_append_left, get_or_push}
 use Rattle.gl_match.specs.declared.role.Pick.{Pick}
-use Rattle.gl_cover.specs.Choice.{set_at}
+use Rattle.gl_match.specs.Choice.{set_at}
 
 -- ---- one more pick
 

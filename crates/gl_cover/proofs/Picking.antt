@@ -4,9 +4,9 @@ use Rattle.std.proofs.lemmas.List.{length_push}
 use Rattle.gl_match.specs.declared.role.Pick.{Pick}
 use Rattle.gl_match.specs.declared.role.Pick.TheVariants.{Taken, Over}
 use Rattle.gl_match.specs.Graph.{is_in}
-use Rattle.gl_cover.specs.Choice.{is_taken}
+use Rattle.gl_match.specs.Choice.{is_taken}
 use Rattle.gl_cover.specs.Owners.{Keeps, least_owner, owner_at}
-use Rattle.gl_cover.specs.Picks.{chosen_after, first_that, meets, over_or, pick_after}
+use Rattle.gl_match.specs.Picks.{chosen_after, first_that, meets, over_or, pick_after}
 use Rattle.gl_cover.proofs.Finding.{found, owner_of, owner_push}
 
 by_table : (first : ℕ) (chosen : List (List ℕ)) (owners : List (Option ℕ)) (next : ℕ) (set : List ℕ) (o : Option ℕ) → Keeps first chosen owners next → o ≡ least_owner owners set → o ≡ first_that (meets set) first chosen

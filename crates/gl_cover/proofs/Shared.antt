@@ -4,7 +4,7 @@ use Rattle.std.specs.Prelude.{Contains}
 use Rattle.std.proofs.lemmas.Bool.{cases_Bool, cond-false, cond-true, or_cases, or_left, or_right}
 use Rattle.gl_match.specs.Graph.{is_in}
 use Rattle.gl_match.proofs.Lists.{in_cons, in_head, in_none, in_tail}
-use Rattle.gl_cover.specs.Picks.{first_that, meets}
+use Rattle.gl_match.specs.Picks.{first_that, meets}
 use Rattle.gl_legal.proofs.Prefixes.{in_if, in_says}
 
 -- two sets have a device in common

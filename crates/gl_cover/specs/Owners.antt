@@ -2,7 +2,7 @@
 use Rattle.std.specs.Prelude.{◌≡◌, ℕ, ◌+◌, List, length, Option, None, Some, nat_le, slice_index_or, fold, if◌then◌else◌}
 use Rattle.std.specs.List.{filter_map}
 use Rattle.gl_match.specs.Graph.{is_in}
-use Rattle.gl_cover.specs.Picks.{first_that}
+use Rattle.gl_match.specs.Picks.{first_that}
 
 -- the number at a device, none past the end
 abbrev pub owner_at : List (Option ℕ) → ℕ → Option ℕ

@@ -1,9 +1,9 @@
 ghost use Rattle.std.specs.Prelude.{◌≡◌, ◌<◌, ◌≤◌, ◌+◌, ◌^◌, ℕ, length, map, All, IfOk, OnOk, List};
 ghost use Rattle.std.specs.List.{sum_by};
 ghost use Rattle.gl_match.specs.Listing.{Instance as Item};
-ghost use Rattle.gl_cover.specs.Choice.{IsChoice, sets_in, sets_of};
+ghost use Rattle.gl_match.specs.Choice.{IsChoice, sets_in, sets_of};
 ghost use Rattle.gl_cover.specs.Owners.{Keeps};
-ghost use Rattle.gl_cover.specs.Picks.{chosen_after_all, picks_after, picks_of};
+ghost use Rattle.gl_match.specs.Picks.{chosen_after_all, picks_after, picks_of};
 
 use crate::owners::{Owners, nobody, pick};
 use gl_legal::{CellList, Instance};

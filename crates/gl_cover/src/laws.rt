@@ -3,8 +3,8 @@ ghost use Rattle.std.specs.Prelude.{◌≡◌, ◌<◌, ◌≤◌, ℕ, List, le
 ghost use Rattle.std.specs.List.{range_with_len};
 ghost use Rattle.gl_match.specs.declared.role.Pick.{Pick as PickValue};
 ghost use Rattle.gl_match.specs.declared.role.Pick.TheVariants.{Over};
-ghost use Rattle.gl_cover.specs.Choice.{IsChoice, IsChosen, Meet, joined, numbers_of};
-ghost use Rattle.gl_cover.specs.Picks.{picks_of};
+ghost use Rattle.gl_match.specs.Choice.{IsChoice, IsChosen, Meet, joined, numbers_of};
+ghost use Rattle.gl_match.specs.Picks.{picks_of};
 
 /// The picks that are computed are the choice without overlap, and there is no other.
 pub fn picks_are_the_choice()

@@ -2,7 +2,7 @@
 ghost use Rattle.std.specs.Prelude.{◌≡◌, ◌<◌, ◌≤◌, ◌+◌, ◌^◌, ℕ, [], length, All, IfOk, List, Some, if◌then◌else◌};
 ghost use Rattle.gl_match.specs.Graph.{is_in};
 ghost use Rattle.gl_cover.specs.Owners.{Keeps, least_owner as least_owner_by, owner_at};
-ghost use Rattle.gl_cover.specs.Picks.{chosen_after, pick_after};
+ghost use Rattle.gl_match.specs.Picks.{chosen_after, pick_after};
 
 use gl_match::{DevId, Memory, Pick};
 use std::alloc::Global;

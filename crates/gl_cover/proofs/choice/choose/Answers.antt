@@ -6,9 +6,9 @@ use Rattle.std.proofs.lemmas.List.{get_or-map, length-map, map_push, take_all}
 use Rattle.std.proofs.lemmas.List.Sums.{sum_by_more}
 use Rattle.gl_match.specs.declared.role.Pick.{Pick}
 use Rattle.gl_match.specs.Listing.{Instance}
-use Rattle.gl_cover.specs.Choice.{IsChoice, sets_in, sets_of}
+use Rattle.gl_match.specs.Choice.{IsChoice, sets_in, sets_of}
 use Rattle.gl_cover.specs.Owners.{Keeps}
-use Rattle.gl_cover.specs.Picks.{chosen_after_all, picks_after, picks_by_list, picks_of}
+use Rattle.gl_match.specs.Picks.{chosen_after_all, picks_after, picks_by_list, picks_of}
 use Rattle.gl_cover.proofs.Going.{chosen_by_list_more, lists_more}
 use Rattle.gl_cover.proofs.OneChoice.{picks_are_choice}
 use Rattle.gl_cover.proofs.choice.choose.Goals as goal

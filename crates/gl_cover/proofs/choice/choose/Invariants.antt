@@ -5,9 +5,9 @@ use Rattle.std.specs.declared.alloc.Global.{Global}
 use Rattle.std.specs.declared.vec.Vec.{Vec}
 use Rattle.gl_match.specs.declared.role.Pick.{Pick}
 use Rattle.gl_match.specs.Listing.{Instance}
-use Rattle.gl_cover.specs.Choice.{sets_of}
+use Rattle.gl_match.specs.Choice.{sets_of}
 use Rattle.gl_cover.specs.Owners.{Keeps}
-use Rattle.gl_cover.specs.Picks.{chosen_after_all, picks_by_list}
+use Rattle.gl_match.specs.Picks.{chosen_after_all, picks_by_list}
 use Rattle.gl_cover.proofs.choice.choose.Given as goal
 
 abbrev pub invariant-loop-list : goal.invariant-loop-list

@@ -2,9 +2,9 @@ use Rattle.std.proofs.Common.{◌≡◌, ◌∙◌, ◌<◌, ◌≤◌, ◌++◌
 use Rattle.std.proofs.lemmas.List.{get_or-map, length-map, take_all}
 use Rattle.gl_match.specs.declared.role.Pick.{Pick}
 use Rattle.gl_match.specs.Listing.{Instance}
-use Rattle.gl_cover.specs.Choice.{sets_in}
+use Rattle.gl_match.specs.Choice.{sets_in}
 use Rattle.gl_cover.specs.Owners.{Keeps}
-use Rattle.gl_cover.specs.Picks.{chosen_after, chosen_after_all, pick_after, picks_after}
+use Rattle.gl_match.specs.Picks.{chosen_after, chosen_after_all, pick_after, picks_after}
 use Rattle.gl_cover.proofs.Going.{chosen_more, picks_more}
 use Rattle.gl_cover.proofs.choice.pick_all.Goals as goal
 

@@ -1,7 +1,7 @@
 use Rattle.std.proofs.Common.{◌≡◌, ◌≤◌, ◌+◌, ℕ, List, length, take}
-use Rattle.gl_cover.specs.Choice.{sets_in}
+use Rattle.gl_match.specs.Choice.{sets_in}
 use Rattle.gl_cover.specs.Owners.{Keeps}
-use Rattle.gl_cover.specs.Picks.{chosen_after_all, picks_after}
+use Rattle.gl_match.specs.Picks.{chosen_after_all, picks_after}
 use Rattle.gl_cover.proofs.choice.pick_all.Given as goal
 
 abbrev pub invariant-loop-instance : goal.invariant-loop-instance

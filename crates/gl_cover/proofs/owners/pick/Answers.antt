@@ -2,7 +2,7 @@ use Rattle.std.proofs.Common.{◌≡◌, ◌∙◌, ◌+◌, ℕ, List, Option, 
 use Rattle.std.proofs.lemmas.List.{with_items_is}
 use Rattle.gl_match.specs.Graph.{is_in}
 use Rattle.gl_cover.specs.Owners.{Keeps, least_owner, owner_at}
-use Rattle.gl_cover.specs.Picks.{chosen_after}
+use Rattle.gl_match.specs.Picks.{chosen_after}
 use Rattle.gl_cover.proofs.Picking.{kept_next, kept_over, pick_next, pick_over}
 use Rattle.gl_cover.proofs.owners.pick.Goals as goal
 
