@@ -1,10 +1,10 @@
 -- The decks and cells of the rows are such that circuits and patterns are made of them.
-use Rattle.std.proofs.Common.{◌≡◌, ◌<◌, ℕ, zero, suc, List, [], ◌∷◌, refl, arith}
+use Rattle.std.proofs.Common.{[], ◌∷◌, refl, arith}
 use Rattle.std.specs.Prelude.{All}
 use Rattle.std.proofs.lemmas.List.Elements.{All-cons, All-nil}
 use Rattle.gl_text.specs.Cards.{Device as Card, IsDeviceCard}
 use Rattle.gl_base.specs.Patterns.{IsOneCell}
-use Rattle.gl_base.specs.Rows.{transistor, one_inverter, inverter_head, inverter_cell, one_pass_gate, pass_gate_head, pass_gate_cell}
+use Rattle.gl_base.specs.Rows.{one_inverter, inverter_head, inverter_cell, one_pass_gate, pass_gate_head, pass_gate_cell}
 
 -- two cards
 both_cards : (a b : Card) → IsDeviceCard a → IsDeviceCard b → All IsDeviceCard (a ∷ b ∷ [])

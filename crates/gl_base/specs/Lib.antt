@@ -2,6 +2,9 @@ pub mod Rails
 pub mod TypeNames
 pub mod BaseCircuit
 pub mod Patterns
-pub mod Rows
 pub mod Reports
 pub mod Libraries
+pub mod Stems
+pub mod Rounds
+pub mod RoundReports
+pub mod Rows

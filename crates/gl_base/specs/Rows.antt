@@ -1,6 +1,9 @@
 -- Decks and cells on which the definitions are computed.
-use Rattle.std.specs.Prelude.{ℕ, List, [], ◌∷◌, Some, None, codes}
+use Rattle.std.specs.Prelude.{ℕ, List, [], ◌∷◌, map, Some, None, codes}
 use Rattle.gl_text.specs.Cards.{Device as Card, Model, Head}
+use Rattle.gl_text.specs.Decks.{Body, dev_at, Sub}
+use Rattle.gl_match.specs.Listing.{Instance}
+use Rattle.gl_base.specs.Libraries.{Library, loose}
 use Rattle.gl_base.specs.BaseCircuit.{Source}
 
 -- a transistor
@@ -78,3 +81,43 @@ mixed = record {
   cells = mixed_cell ∷ [];
   pinned = codes "c" ∷ codes "w" ∷ codes "b" ∷ [];
 }
+
+-- ---- cells of a library
+
+-- devices as cards of a line
+abbrev pub cards_at_one : List Card → List Body
+cards_at_one devices = map (λ d. dev_at 1 d) devices
+
+abbrev pub inverter_sub : Sub
+inverter_sub = record { line = 1; head = inverter_head; cards = cards_at_one inverter_cell }
+
+abbrev pub pass_gate_sub : Sub
+pass_gate_sub = record { line = 1; head = pass_gate_head; cards = cards_at_one pass_gate_cell }
+
+-- a cell without cards, and one with a port on no card
+abbrev pub empty_sub : Sub
+empty_sub = record { line = 1; head = record { name = codes "fill"; ports = [] }; cards = [] }
+
+abbrev pub loose_sub : Sub
+loose_sub = record { line = 1; head = record { name = codes "odd"; ports = codes "a" ∷ codes "b" ∷ [] }; cards = cards_at_one (resistor (codes "r1") (codes "a") (codes "0") ∷ []) }
+
+-- an inverter, a cell that is skipped, and one of a higher level
+abbrev pub small_library : Library
+small_library = record {
+  deck = record { title = []; globals = []; models = []; subs = inverter_sub ∷ loose_sub ∷ pass_gate_sub ∷ []; top = []; passed = [] };
+  cells = record { level = 0; skip = None } ∷ record { level = 0; skip = Some (loose (codes "b")) } ∷ record { level = 1; skip = None } ∷ [];
+}
+
+-- a pass gate on devices 0 and 1, both ways
+abbrev pub pass_gate_twice : List Instance
+pass_gate_twice = record {
+  key = record { set = 0 ∷ 1 ∷ []; binding = 0 ∷ 2 ∷ 1 ∷ 4 ∷ [] };
+  least = record { dev = 0; turn = 0 } ∷ record { dev = 1; turn = 0 } ∷ [];
+} ∷ record {
+  key = record { set = 0 ∷ 1 ∷ []; binding = 2 ∷ 0 ∷ 1 ∷ 4 ∷ [] };
+  least = record { dev = 0; turn = 1 } ∷ record { dev = 1; turn = 1 } ∷ [];
+} ∷ []
+
+-- an inverter on devices 0 and 1
+abbrev pub inverter_once : List Instance
+inverter_once = record { key = record { set = 0 ∷ 1 ∷ []; binding = 1 ∷ 0 ∷ [] }; least = record { dev = 0; turn = 0 } ∷ record { dev = 1; turn = 0 } ∷ [] } ∷ []

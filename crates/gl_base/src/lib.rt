@@ -3,9 +3,11 @@
 
 mod laws;
 mod reports;
+mod rounds;
 
 pub use laws::{
     inverter_rows, mixed_rows, names_stand_once, numbers_lead_back, pass_gate_rows, rail_rows,
     rails_differ, same_types_are_equal,
 };
 pub use reports::reports_compute;
+pub use rounds::round_reports_compute;
