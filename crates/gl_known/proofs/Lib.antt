@@ -5,6 +5,7 @@ pub mod DeckSizes
 pub mod DecksRead
 pub mod DecksTaken
 pub mod Fields
+pub mod FlatSizes
 pub mod Lines
 pub mod Placing
 pub mod Totals

@@ -1,9 +1,10 @@
--- What is known of every deck that was read: its cards are such as are read, and its size is at most the number of bytes. This project's own.
-use Rattle.std.specs.Prelude.{◌≡◌, ℕ, ◌+◌, ◌≤◌, false, length, sum_by, Result, Ok, Err, codes, All}
+-- What is known of every deck that was read, and of its flat deck: cards are such as are read, and sizes are at most the numbers of bytes. This project's own.
+use Rattle.std.specs.Prelude.{◌≡◌, ℕ, ◌+◌, ◌≤◌, false, length, map, sum_by, Result, Ok, Err, codes, All}
 use Rattle.gl_text.specs.LogicalLines.{Fault, Line}
 use Rattle.gl_text.specs.Cards.{IsDeviceCard}
 use Rattle.gl_text.specs.Decks.{Body, dev_at, call_at, Sub, Deck, is_in, has_twice}
-use Rattle.gl_text.specs.OneCell.{devices_in}
+use Rattle.gl_text.specs.Flattening.{Flat, flat_card}
+use Rattle.gl_text.specs.OneCell.{devices_in, places_count}
 
 -- ---- sizes
 
@@ -38,3 +39,8 @@ pub record IsKnownDeck (size : ℕ) (d : Deck) : Type 0 where
   pub top_cards : All IsDeviceCard (devices_in d.top)
   pub subs_known : All IsKnownSub d.subs
   pub small : deck_size d ≤ size
+
+-- each flat device has the nodes that its letter demands, and the places of all are no more than the bytes of a file
+pub record IsKnownFlat (f : Flat) : Type 0 where
+  pub cards : All IsDeviceCard (map flat_card f.devices)
+  pub places : places_count (map flat_card f.devices) ≤ 67108864

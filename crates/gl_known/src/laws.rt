@@ -1,8 +1,11 @@
-ghost use Rattle.std.specs.Prelude.{◌≡◌, ◌≤◌, List, ℕ, Bool, length, sum_by, Ok, codes, IsOkAnd, true, false};
+ghost use Rattle.std.specs.Prelude.{◌≡◌, ◌≤◌, List, ℕ, Bool, Option, length, sum_by, Ok, codes, IsOkAnd, true, false};
 ghost use Rattle.gl_text.specs.LogicalLines.{FILE};
 ghost use Rattle.gl_text.specs.Decks.{Deck, file_lines, read_deck};
+ghost use Rattle.gl_text.specs.Flattening.{Flat, flatten};
 ghost use Rattle.gl_text.specs.OneCell.{DeviceDeck, CellLibrary, device_deck, cell_library, IsDeviceDeck, IsCellLibrary};
-ghost use Rattle.gl_known.specs.Known.{line_size, deck_size, IsKnownDeck};
+ghost use Rattle.gl_printed.specs.FlatDecks.{AreRails};
+ghost use Rattle.gl_printed.specs.ReadDecks.{IsReadDeck};
+ghost use Rattle.gl_known.specs.Known.{line_size, deck_size, IsKnownDeck, IsKnownFlat};
 
 /// The logical lines of a file are together no longer than its bytes.
 pub fn lines_are_short()
@@ -18,6 +21,12 @@ pub fn read_decks_are_known()
 pub fn taken_decks_are_known()
     ensures devices { (bytes : List ℕ) (d : DeviceDeck) → length bytes ≤ FILE → device_deck bytes ≡ Ok d → IsDeviceDeck d }
     ensures cell { (bytes : List ℕ) (l : CellLibrary) → length bytes ≤ FILE → cell_library bytes ≡ Ok l → IsCellLibrary l }
+{}
+
+/// The flat deck of a deck as it is read has cards such as are read, and no more places than a file has bytes.
+pub fn flat_decks_are_known()
+    ensures known { (deck : Deck) (rails : List (List ℕ)) (top : Option (List ℕ)) (flat : Flat)
+        → IsReadDeck deck → AreRails rails → flatten deck rails top ≡ Ok flat → IsKnownFlat flat }
 {}
 
 /// The sizes of a deck and of logical lines.
