@@ -8,3 +8,4 @@ pub mod Stems
 pub mod Rounds
 pub mod RoundReports
 pub mod Rows
+pub mod Lifting
