@@ -1,5 +1,5 @@
 -- The circuit of a flat deck's devices. This project's own.
-use Rattle.std.specs.Prelude.{ℕ, List, [], ◌∷◌, ◌++◌, length, map, flat_map, filter_map, position}
+use Rattle.std.specs.Prelude.{ℕ, List, ◌++◌, length, map, flat_map, filter_map, position}
 use Rattle.std.specs.List.{position_or_len}
 use Rattle.gl_text.specs.LogicalLines.{same_text}
 use Rattle.gl_text.specs.Cards.{Device as Card, Model}
@@ -16,10 +16,6 @@ pub record Source : Type 0 where
   pub devices : List Card
   pub cells : List (List Card)
   pub pinned : List (List ℕ)
-
--- a source with one cell, where no name pins a net
-abbrev pub one_cell : List (List ℕ) → List Model → List Model → List Card → List Card → Source
-one_cell rails deck_models library_models devices cell = record { rails = rails; deck_models = deck_models; library_models = library_models; devices = devices; cells = cell ∷ []; pinned = [] }
 
 -- the names of nets, each once, going through the devices and their places
 abbrev pub nets_of : List Card → List (List ℕ)

@@ -1,8 +1,8 @@
 -- The pattern of a cell. This project's own.
-use Rattle.std.specs.Prelude.{ℕ, ◌≤◌, List, length, map, position, Option, Some, None, All}
+use Rattle.std.specs.Prelude.{ℕ, ◌≤◌, List, length, map, flat_map, position, Option, Some, None, All}
 use Rattle.gl_text.specs.LogicalLines.{same_text}
 use Rattle.gl_text.specs.Cards.{Device as Card, Head, IsDeviceCard}
-use Rattle.gl_text.specs.OneCell.{places_count, IsCellOf}
+use Rattle.gl_text.specs.OneCell.{places_count}
 use Rattle.gl_match.specs.declared.role.Role.{Role}
 use Rattle.gl_match.specs.declared.role.Role.TheVariants.{Port, Rail, Inner}
 use Rattle.gl_match.specs.Graph.{Circuit, Pattern}
@@ -27,17 +27,16 @@ pattern_of s head cards = let nets = nets_of cards in record {
   ports = map (net_number nets) head.ports;
 }
 
--- the circuit of a deck, the pattern of a cell, and the names of the circuit's nets by their numbers
+-- the circuit of a deck, and patterns that are looked for in it
 pub record Base : Type 0 where
   pub circuit : Circuit
-  pub pattern : Pattern
-  pub nets : List (List ℕ)
+  pub patterns : List Pattern
 
--- what a base of one cell is made from: cards as they are read, a cell of which each port stands on a card, rails that differ, and few enough of all
-pub record IsOneCell (rails : List (List ℕ)) (devices : List Card) (head : Head) (cell : List Card) : Type 0 where
-  pub deck_cards : All IsDeviceCard devices
-  pub whole_cell : IsCellOf head cell
-  pub rails_differ : AreRails rails
-  pub deck_places : places_count devices ≤ 67108864
-  pub cell_places : places_count cell ≤ 67108864
-  pub few_rails : length rails ≤ 134217728
+-- what circuits and patterns are made from: the deck's cards are such as are read, rails differ, and there are few enough of all
+pub record IsSound (s : Source) : Type 0 where
+  pub deck_cards : All IsDeviceCard s.devices
+  pub rails_differ : AreRails s.rails
+  pub deck_places : places_count s.devices ≤ 67108864
+  pub cell_places : places_count (flat_map (λ cards. cards) s.cells) ≤ 67108864
+  pub few_rails : length s.rails ≤ 134217728
+  pub few_pinned : length s.pinned ≤ 67108864

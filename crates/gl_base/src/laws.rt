@@ -3,11 +3,12 @@ ghost use Rattle.std.specs.Prelude.{◌≡◌, ◌↔◌, ℕ, List, [], ◌∷�
 ghost use Rattle.std.specs.Cmp.{IsEquivalence};
 ghost use Rattle.gl_text.specs.Cards.{Device as Card};
 ghost use Rattle.gl_text.specs.Decks.{has_twice, once};
+ghost use Rattle.gl_text.specs.OneCell.{IsCellOf};
 ghost use Rattle.gl_match.specs.declared.role.Role.TheVariants.{Port, Rail, Inner};
 ghost use Rattle.gl_base.specs.Rails.{run_rails, AreRails};
 ghost use Rattle.gl_base.specs.TypeNames.{TypeName, same_type};
 ghost use Rattle.gl_base.specs.BaseCircuit.{circuit_of, nets_of, net_number};
-ghost use Rattle.gl_base.specs.Patterns.{pattern_of, IsOneCell};
+ghost use Rattle.gl_base.specs.Patterns.{pattern_of, IsSound};
 ghost use Rattle.gl_base.specs.Rows.{one_inverter, inverter_head, inverter_cell, one_pass_gate, pass_gate_head, pass_gate_cell, mixed, mixed_head, mixed_cell};
 
 /// The rails of a run: the deck's come first, each name once, and `0` is none of them.
@@ -17,7 +18,8 @@ pub fn rail_rows()
 
 /// A deck of one inverter, and the inverter's pattern.
 pub fn inverter_rows()
-    ensures sound { IsOneCell one_inverter.rails one_inverter.devices inverter_head inverter_cell }
+    ensures sound { IsSound one_inverter }
+    ensures whole { IsCellOf inverter_head inverter_cell }
     ensures nets { nets_of one_inverter.devices ≡ codes "out" ∷ codes "in" ∷ codes "vdd" ∷ codes "0" ∷ [] }
     ensures circuit { circuit_of one_inverter ≡ record {
       shapes = (0 ∷ 1 ∷ 0 ∷ 2 ∷ []) ∷ (0 ∷ 1 ∷ 0 ∷ 2 ∷ []) ∷ [];
@@ -35,7 +37,8 @@ pub fn inverter_rows()
 
 /// A deck of one pass gate, and the pass gate's pattern.
 pub fn pass_gate_rows()
-    ensures sound { IsOneCell one_pass_gate.rails one_pass_gate.devices pass_gate_head pass_gate_cell }
+    ensures sound { IsSound one_pass_gate }
+    ensures whole { IsCellOf pass_gate_head pass_gate_cell }
     ensures circuit { circuit_of one_pass_gate ≡ record {
       shapes = (0 ∷ 1 ∷ 0 ∷ 2 ∷ []) ∷ (0 ∷ 1 ∷ 0 ∷ 2 ∷ []) ∷ [];
       devices = record { kind = 0; nets = 0 ∷ 1 ∷ 2 ∷ 3 ∷ [] } ∷ record { kind = 1; nets = 0 ∷ 4 ∷ 2 ∷ 5 ∷ [] } ∷ [];

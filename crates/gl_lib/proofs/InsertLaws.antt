@@ -1,5 +1,5 @@
 -- The keys of an index set after inserts: each once, in order of first appearance.
-use Rattle.std.proofs.Common.{◌≡◌, Option, Some, get_or, drop, ◌+◌, ◌<◌, ◌≤◌, ℕ, length, flat_map, arith, List, [], ◌∷◌, ◌++◌, cond, true, false, Bool, refl, sym, ap, ◌∙◌, subst, append_assoc, length-append, inl, inr}
+use Rattle.std.proofs.Common.{◌≡◌, Option, Some, get_or, drop, ◌+◌, ◌<◌, ◌≤◌, ℕ, length, map, flat_map, arith, List, [], ◌∷◌, ◌++◌, cond, true, false, Bool, refl, sym, ap, ◌∙◌, subst, append_assoc, length-append, inl, inr}
 use Rattle.std.specs.Prelude.{not, Contains, ◌⊎◌, ◌||◌, ◌&&◌, filter, position, if◌then◌else◌}
 use Rattle.std.specs.List.{list_any, sum_by, position_or_len}
 use Rattle.std.proofs.lemmas.List.{drop_more, drop_all}
@@ -124,19 +124,20 @@ places_are (d ∷ ds) =
     omega (arith, split, count, places_are ds)
 
 -- one step of a loop over devices
-pub nodes_step : (keys new : List (List ℕ)) (devices : List Card) (i : ℕ) (d : Card) (whole : List (List ℕ)) → i < length devices → d ≡ get_or devices i d → new ≡ insert_all same_text keys d.nodes → insert_all same_text keys (flat_map (λ (c : Card). c.nodes) (drop i devices)) ≡ whole → insert_all same_text new (flat_map (λ (c : Card). c.nodes) (drop (i + 1) devices)) ≡ whole
-nodes_step keys new devices i d whole lt d_is new_is before =
+pub nodes_step : {R : Type 0} (value : R → Card) (keys new : List (List ℕ)) (devices : List R) (i : ℕ) (d : R) (whole : List (List ℕ)) → i < length devices → d ≡ get_or devices i d → new ≡ insert_all same_text keys (value d).nodes
+    → insert_all same_text keys (flat_map (λ (c : Card). c.nodes) (map value (drop i devices))) ≡ whole → insert_all same_text new (flat_map (λ (c : Card). c.nodes) (map value (drop (i + 1) devices))) ≡ whole
+nodes_step value keys new devices i d whole lt d_is new_is before =
     let split : drop i devices ≡ d ∷ drop (i + 1) devices = drop_more devices i d lt ∙ ap (λ c. c ∷ drop (i + 1) devices) (sym d_is) in
-    nodes_inserted keys new d (drop (i + 1) devices) new_is
-    ∙ ap (λ ds. insert_all same_text keys (flat_map (λ (c : Card). c.nodes) ds)) (sym split)
+    nodes_inserted keys new (value d) (map value (drop (i + 1) devices)) new_is
+    ∙ ap (λ ds. insert_all same_text keys (flat_map (λ (c : Card). c.nodes) (map value ds))) (sym split)
     ∙ before
 
 -- at its end
-pub nodes_done : (keys : List (List ℕ)) (devices : List Card) (i : ℕ) → length devices ≤ i → insert_all same_text keys (flat_map (λ (c : Card). c.nodes) (drop i devices)) ≡ insert_all same_text [] (flat_map (λ (c : Card). c.nodes) devices) → keys ≡ nets_of devices
-nodes_done keys devices i past done =
+pub nodes_done : {R : Type 0} (value : R → Card) (keys : List (List ℕ)) (devices : List R) (i : ℕ) → length devices ≤ i → insert_all same_text keys (flat_map (λ (c : Card). c.nodes) (map value (drop i devices))) ≡ insert_all same_text [] (flat_map (λ (c : Card). c.nodes) (map value devices)) → keys ≡ nets_of (map value devices)
+nodes_done value keys devices i past done =
     let none : drop i devices ≡ [] = drop_all i devices past in
-    let all : keys ≡ insert_all same_text [] (flat_map (λ (c : Card). c.nodes) devices) = ap (λ ds. insert_all same_text keys (flat_map (λ (c : Card). c.nodes) ds)) (sym none) ∙ done in
-    names_inserted [] keys (flat_map (λ (c : Card). c.nodes) devices) refl all
+    let all : keys ≡ insert_all same_text [] (flat_map (λ (c : Card). c.nodes) (map value devices)) = ap (λ ds. insert_all same_text keys (flat_map (λ (c : Card). c.nodes) (map value ds))) (sym none) ∙ done in
+    names_inserted [] keys (flat_map (λ (c : Card). c.nodes) (map value devices)) refl all
 
 -- a name that is there has a number
 pub number_there : (names : List (List ℕ)) (name : List ℕ) (found : Option ℕ) → found ≡ position (same_text name) names → is_in name names ≡ true → found ≡ Some (position_or_len (same_text name) names)

@@ -6,6 +6,10 @@ pub mod FaultLaws
 pub mod CardLaws
 pub mod CircuitLaws
 pub mod PatternLaws
-pub mod BaseLaws
+pub mod PinLaws
 pub mod TableLaws
+pub mod SoundLaws
+pub mod FitLaws
+pub mod FlatLaws
+pub mod CellLaws
 pub mod BuildLaws

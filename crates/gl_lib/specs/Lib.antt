@@ -1,3 +1,4 @@
 pub mod Keys
+pub mod Sources
 pub mod Numbered
 pub mod Tables

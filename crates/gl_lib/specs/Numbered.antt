@@ -4,6 +4,8 @@ use Rattle.std.specs.List.{list_any}
 use Rattle.gl_text.specs.Cards.{Device as Card}
 use Rattle.gl_text.specs.Decks.{is_in}
 use Rattle.gl_base.specs.TypeNames.{TypeName, same_type}
+use Rattle.gl_flat.specs.Numbered.{NumberedDevice}
+use Rattle.gl_lib.specs.Sources.{type_of_flat}
 
 -- the names are among the nets
 abbrev pub AreNets : List (List ℕ) → List (List ℕ) → Type 0
@@ -13,3 +15,7 @@ AreNets nets names = All (λ name. is_in name nets ≡ true) names
 pub record IsNumbered (type : Card → TypeName) (types : List TypeName) (nets : List (List ℕ)) (card : Card) : Type 0 where
   pub kind : list_any (same_type (type card)) types ≡ true
   pub nodes : AreNets nets card.nodes
+
+-- the type of a flat device is among the types
+abbrev pub IsAmongTypes : (Card → TypeName) → List TypeName → NumberedDevice → Type 0
+IsAmongTypes type types d = list_any (same_type (type_of_flat type d)) types ≡ true

@@ -1,17 +1,19 @@
-//! The pattern of a cell and the circuit of a deck, from the tables.
-ghost use Rattle.std.specs.Prelude.{◌≡◌, ℕ, length, map, IfOk};
-ghost use Rattle.gl_match.specs.Graph.{Circuit as Graph, FitsInto};
-ghost use Rattle.gl_base.specs.Rails.{all_rails};
+//! The patterns of cells and the circuit of a deck, from the tables.
+ghost use Rattle.std.specs.Prelude.{◌≡◌, map, Contains, IfOk};
+ghost use Rattle.gl_text.specs.OneCell.{devices_in};
 ghost use Rattle.gl_base.specs.TypeNames.{classes_of};
-ghost use Rattle.gl_base.specs.BaseCircuit.{circuit_of, nets_of, types_of};
-ghost use Rattle.gl_base.specs.Patterns.{pattern_of};
-ghost use Rattle.gl_lib.specs.Tables.{AreSound, AreTablesOf, source_of};
+ghost use Rattle.gl_base.specs.BaseCircuit.{circuit_of, types_of};
+ghost use Rattle.gl_base.specs.Rounds.{cells_at, searched, cell_pattern};
+ghost use Rattle.gl_lib.specs.Sources.{IsWhole, cells_in};
+ghost use Rattle.gl_lib.specs.Tables.{ArePartsSound, AreTablesOf, source_of};
 
-use crate::Parts;
-use crate::devices::{devices_of, numbers_of};
+use crate::cells::{cards_of, searched_cells};
+use crate::devices::{devices_of, flat_devices, numbers_of};
 use crate::names::Names;
-use crate::roles::{rail_nets, roles_of};
+use crate::parts::Parts;
+use crate::roles::{pinned_nets, rail_nets, roles_of};
 use crate::tables::Tables;
+use gl_cells::Sub;
 use gl_graph::{BuildFault, Circuit, Pattern, Shape};
 use std::alloc::{AllocError, Global};
 
@@ -25,23 +27,26 @@ fn want_of_memory(fault: BuildFault) -> AllocError
     }
 }
 
-/// The pattern of the cell.
-pub fn build_pattern(
+/// The pattern of a cell.
+fn build_pattern(
     alloc: Global,
     parts: &Parts,
     tables: &Tables,
     shapes: &[Shape],
+    cell: &Sub,
 ) -> Result<Pattern, AllocError>
-    requires sound { AreSound parts.now }
-    requires tables { AreTablesOf parts.now tables.now }
+    requires sound { ArePartsSound parts.now }
+    requires tables { AreTablesOf (source_of parts.now) tables.now }
     requires shapes { shapes.now ≡ map classes_of (types_of (source_of parts.now)) }
-    ensures pattern { IfOk result (λ p. p ≡ pattern_of (source_of parts.now) parts.now.head.now parts.now.cell.now) }
-    ensures fits { IfOk result (λ p. (c : Graph) → c.shapes ≡ shapes.now → length c.rails ≡ length (all_rails parts.now.rails.now) → FitsInto c p) }
+    requires among { Contains (cells_in parts.now.library.now) (devices_in cell.now.cards) }
+    requires whole { IsWhole cell.now }
+    ensures pattern { IfOk result (λ p. p ≡ cell_pattern (source_of parts.now) cell.now) }
 {
-    let nets = Names::of_nets(alloc, parts.cell)?;
-    let port_names = parts.head.ports();
+    let cards = cards_of(alloc, cell.cards())?;
+    let nets = Names::of_nets(alloc, &cards)?;
+    let port_names = cell.head().ports();
     let ports = Names::of(alloc, port_names)?;
-    let devices = devices_of(alloc, &tables.words, &tables.kinds, &nets, parts.cell)?;
+    let devices = devices_of(alloc, &tables.words, &tables.kinds, &nets, &cards)?;
     let roles = roles_of(alloc, &tables.rails, &ports, nets.items())?;
     let port_nets = numbers_of(alloc, &nets, port_names)?;
     let rails = tables.rails.count();
@@ -51,25 +56,44 @@ pub fn build_pattern(
     }
 }
 
+/// The patterns of the searched cells of level 0, in library order.
+pub fn build_patterns(
+    alloc: Global,
+    parts: &Parts,
+    tables: &Tables,
+    shapes: &[Shape],
+) -> Result<Vec<Pattern>, AllocError>
+    requires sound { ArePartsSound parts.now }
+    requires tables { AreTablesOf (source_of parts.now) tables.now }
+    requires shapes { shapes.now ≡ map classes_of (types_of (source_of parts.now)) }
+    ensures patterns { IfOk result (λ ps. ps.items ≡ map (cell_pattern (source_of parts.now)) (searched (cells_at 0 parts.now.library.now))) }
+{
+    let cells = searched_cells(alloc, parts.library, 0)?;
+    let mut patterns = Vec::with_capacity(alloc, cells.len())?;
+    for cell in &cells {
+        patterns.push(build_pattern(alloc, parts, tables, shapes, cell)?)?;
+    }
+    Ok(patterns)
+}
+
 /// The circuit of the deck's devices.
 pub fn build_circuit(
     alloc: Global,
     parts: &Parts,
     tables: &Tables,
     shapes: Vec<Shape>,
-    nets: &Names,
 ) -> Result<Circuit, AllocError>
-    requires sound { AreSound parts.now }
-    requires tables { AreTablesOf parts.now tables.now }
+    requires sound { ArePartsSound parts.now }
+    requires tables { AreTablesOf (source_of parts.now) tables.now }
     requires shapes { shapes.items ≡ map classes_of (types_of (source_of parts.now)) }
-    requires nets { nets.now ≡ nets_of parts.now.devices.now }
     ensures circuit { IfOk result (λ c. c ≡ circuit_of (source_of parts.now)) }
 {
-    let devices = devices_of(alloc, &tables.words, &tables.kinds, nets, parts.devices)?;
-    let rails = rail_nets(alloc, tables.rails.items(), nets)?;
-    let count = nets.count();
-    let pinned = Vec::new(alloc);
-    match Circuit::build(alloc, shapes, devices, count, rails, pinned) {
+    let flat = parts.flat;
+    let nets = Names::of(alloc, flat.nets())?;
+    let devices = flat_devices(alloc, &tables.words, &tables.kinds, flat.devices())?;
+    let rails = rail_nets(alloc, tables.rails.items(), &nets)?;
+    let pinned = pinned_nets(alloc, flat.top(), &nets)?;
+    match Circuit::build(alloc, shapes, devices, nets.count(), rails, pinned) {
         Ok(circuit) => Ok(circuit),
         Err(fault) => Err(want_of_memory(fault)),
     }

@@ -4,11 +4,17 @@ ghost use Rattle.indexmap.specs.IndexMap.{get};
 ghost use Rattle.indexmap.specs.IndexSet.{insert_all};
 ghost use Rattle.gl_text.specs.LogicalLines.{same_text};
 ghost use Rattle.gl_base.specs.TypeNames.{same_type, type_by, each_once, classes_of};
+ghost use Rattle.gl_text.specs.OneCell.{devices_in};
 ghost use Rattle.gl_base.specs.BaseCircuit.{type_number};
+ghost use Rattle.gl_lib.specs.Sources.{cards_of_cells};
+ghost use Rattle.gl_lib.specs.Sources as flat;
 
+use crate::cells::cards_of;
 use crate::type_name::TypeName;
-use crate::words::{Words, type_of};
+use crate::words::{Words, flat_type, type_of};
 use gl_card::DevCard;
+use gl_cells::Sub;
+use gl_flat::FlatDevice;
 use gl_graph::{Shape, TypeId};
 use indexmap::IndexSet;
 use std::alloc::{AllocError, Global};
@@ -31,14 +37,29 @@ impl Model for Kinds {
     ghost invariant = { λ k. length k.set.keys < 2 ^ 32 };
 }
 
+/// Adds the types of flat devices, each that is not there.
+fn add_flat_types(
+    alloc: Global,
+    set: &mut IndexSet<TypeName>,
+    words: &Words,
+    devices: &[FlatDevice],
+) -> Result<(), AllocError>
+    ensures added { OnOk result (set.new.keys ≡ insert_all same_type set.old.keys (map (flat.type_of_flat (type_by (get same_text words.now))) devices.now)) }
+{
+    for device in devices {
+        set.insert(flat_type(alloc, words, device)?)?;
+    }
+    Ok(())
+}
+
 /// Adds the types of cards, each that is not there.
 fn add_types(
     alloc: Global,
     set: &mut IndexSet<TypeName>,
     words: &Words,
-    cards: &[DevCard],
+    cards: &[&DevCard],
 ) -> Result<(), AllocError>
-    ensures added { OnOk result (set.new.keys ≡ insert_all same_type set.old.keys (map (type_by (get same_text words.now)) cards.now)) }
+    ensures added { OnOk result (set.new.keys ≡ insert_all same_type set.old.keys (map (type_by (get same_text words.now)) (map (λ c. c.now) cards.now))) }
 {
     for card in cards {
         set.insert(type_of(alloc, words, card)?)?;
@@ -46,20 +67,48 @@ fn add_types(
     Ok(())
 }
 
+/// Adds the types of the devices of a cell, each that is not there.
+fn add_cell_types(
+    alloc: Global,
+    set: &mut IndexSet<TypeName>,
+    words: &Words,
+    cell: &Sub,
+) -> Result<(), AllocError>
+    ensures added { OnOk result (set.new.keys ≡ insert_all same_type set.old.keys (map (type_by (get same_text words.now)) (devices_in cell.now.cards))) }
+{
+    let cards = cards_of(alloc, cell.cards())?;
+    add_types(alloc, set, words, &cards)
+}
+
+/// Adds the types of the devices of cells, each that is not there.
+fn add_library_types(
+    alloc: Global,
+    set: &mut IndexSet<TypeName>,
+    words: &Words,
+    cells: &[Sub],
+) -> Result<(), AllocError>
+    ensures added { OnOk result (set.new.keys ≡ insert_all same_type set.old.keys (map (type_by (get same_text words.now)) (cards_of_cells cells.now))) }
+{
+    for cell in cells {
+        add_cell_types(alloc, set, words, cell)?;
+    }
+    Ok(())
+}
+
 impl Kinds {
-    /// The types of a deck's devices and then those of a cell's cards, each once in order of first appearance.
+    /// The types of a flat deck's devices and then those of all cells' devices, each once in order of first appearance.
     pub fn of(
         alloc: Global,
         words: &Words,
-        devices: &[DevCard],
-        cell: &[DevCard],
+        devices: &[FlatDevice],
+        cells: &[Sub],
     ) -> Result<Kinds, AllocError>
-        requires { length devices.now + length cell.now < 2 ^ 32 }
-        ensures types { IfOk result (λ kinds. kinds ≡ each_once (map (type_by (get same_text words.now)) (devices.now ++ cell.now))) }
+        requires { length devices.now + length (cards_of_cells cells.now) < 2 ^ 32 }
+        ensures types { IfOk result (λ kinds. kinds ≡ each_once (map (flat.type_of_flat (type_by (get same_text words.now))) devices.now ++ map (type_by (get same_text words.now)) (cards_of_cells cells.now))) }
     {
         let mut set = IndexSet::new(alloc);
-        add_types(alloc, &mut set, words, devices)?;
-        add_types(alloc, &mut set, words, cell)?;
+        add_flat_types(alloc, &mut set, words, devices)?;
+        add_library_types(alloc, &mut set, words, cells)?;
         Ok(Kinds { set })
     }
 

@@ -1,17 +1,30 @@
 //! Laws over the definitions: each is the contract of a function that does nothing.
-ghost use Rattle.std.specs.Prelude.{◌≡◌, ◌<◌, ℕ, List, None, length, map};
-ghost use Rattle.gl_text.specs.Cards.{Device as Card, Model as Word, Head as Cell};
-ghost use Rattle.gl_base.specs.Rails.{all_rails};
+ghost use Rattle.std.specs.Prelude.{◌≡◌, ◌<◌, ℕ, List, [], ◌∷◌, None, length, map, Contains};
+ghost use Rattle.std.specs.List.{AllByRecursion};
+ghost use Rattle.gl_text.specs.Cards.{Device as Card, Head as Cell, global};
+ghost use Rattle.gl_text.specs.OneCell.{IsCellOf};
+ghost use Rattle.gl_match.specs.Graph.{FitsInto};
+ghost use Rattle.gl_base.specs.Rails.{all_rails, run_rails};
 ghost use Rattle.gl_base.specs.TypeNames.{classes_of};
-ghost use Rattle.gl_base.specs.BaseCircuit.{one_cell, circuit_of, types_of};
-ghost use Rattle.gl_base.specs.Patterns.{pattern_of, IsOneCell};
+ghost use Rattle.gl_base.specs.BaseCircuit.{Source, circuit_of, types_of};
+ghost use Rattle.gl_base.specs.Patterns.{pattern_of, IsSound};
+ghost use Rattle.gl_printed.specs.ReadCards.{IsFine};
+ghost use Rattle.gl_printed.specs.FlatDecks.{AreRails};
 ghost use Rattle.gl_graph.specs.Built.{circuit_size};
 ghost use Rattle.gl_graph.specs.Faults.{circuit_fault, pattern_fault};
 
-/// Circuit and pattern of one cell have no fault, and the circuit has few enough parts.
-pub fn one_cell_is_sound()
-    ensures circuit { (rails : List (List ℕ)) (deck_models library_models : List Word) (devices : List Card) (head : Cell) (cell : List Card) → IsOneCell rails devices head cell → circuit_fault (circuit_of (one_cell rails deck_models library_models devices cell)) ≡ None }
-    ensures size { (rails : List (List ℕ)) (deck_models library_models : List Word) (devices : List Card) (head : Cell) (cell : List Card) → IsOneCell rails devices head cell → circuit_size (circuit_of (one_cell rails deck_models library_models devices cell)) < 4294967295 }
-    ensures pattern { (rails : List (List ℕ)) (deck_models library_models : List Word) (devices : List Card) (head : Cell) (cell : List Card) → IsOneCell rails devices head cell
-        → pattern_fault (map classes_of (types_of (one_cell rails deck_models library_models devices cell))) (length (all_rails rails)) (pattern_of (one_cell rails deck_models library_models devices cell) head cell) ≡ None }
+/// Circuit and patterns of a sound source have no fault, the circuit has few enough parts, and each pattern fits into it.
+pub fn sources_are_sound()
+    ensures circuit { (s : Source) → IsSound s → circuit_fault (circuit_of s) ≡ None }
+    ensures size { (s : Source) → IsSound s → circuit_size (circuit_of s) < 4294967295 }
+    ensures pattern { (s : Source) (head : Cell) (cards : List Card) → IsSound s → Contains s.cells cards → IsCellOf head cards
+        → pattern_fault (map classes_of (types_of s)) (length (all_rails s.rails)) (pattern_of s head cards) ≡ None }
+    ensures fits { (s : Source) (head : Cell) (cards : List Card) → IsSound s → Contains s.cells cards → IsCellOf head cards
+        → FitsInto (circuit_of s) (pattern_of s head cards) }
+{}
+
+/// The rails of a run, from globals as they are read, can be the rails of a flat deck.
+pub fn run_rails_are_fine()
+    ensures rails { (deck library : List (List ℕ)) → AllByRecursion (λ n. IsFine (global (n ∷ []))) deck → AllByRecursion (λ n. IsFine (global (n ∷ []))) library
+        → AreRails (run_rails deck library) }
 {}

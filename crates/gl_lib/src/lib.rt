@@ -1,8 +1,9 @@
-//! The base of a run: its rails, the circuit of its deck's devices, and the pattern of its cell, exactly as they are defined.
+//! The base of a run: its rails, the circuit of its flat deck, and the patterns of its cells of devices, exactly as they are defined.
 #![tactic(auto)]
 
 mod base;
 mod building;
+mod cells;
 mod devices;
 mod kinds;
 mod laws;
@@ -18,6 +19,7 @@ mod words;
 
 pub use base::{Base, base_of};
 pub use gl_card::{DevCard, Head, Letter, ModelCard, Name};
-pub use laws::one_cell_is_sound;
-pub use parts::Parts;
+pub use gl_cells::Library;
+pub use gl_flat::Flat;
+pub use laws::{run_rails_are_fine, sources_are_sound};
 pub use rails::run_rails;

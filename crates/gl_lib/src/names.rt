@@ -1,4 +1,4 @@
-ghost use Rattle.std.specs.Prelude.{◌≡◌, ◌∷◌, ◌≤◌, ◌<◌, ◌^◌, ℕ, [], length, flat_map, position, IfOk, OnOk, true};
+ghost use Rattle.std.specs.Prelude.{◌≡◌, ◌∷◌, ◌≤◌, ◌<◌, ◌^◌, ℕ, [], length, map, flat_map, position, IfOk, OnOk, true};
 ghost use Rattle.std.specs.List.{list_any, position_or_len};
 ghost use Rattle.indexmap.specs.IndexSet.{insert_all};
 ghost use Rattle.gl_text.specs.LogicalLines.{same_text};
@@ -73,9 +73,9 @@ impl Names {
     }
 
     /// The nets of devices, each once in order of first appearance, place by place.
-    pub fn of_nets(alloc: Global, devices: &[DevCard]) -> Result<Names, AllocError>
-        requires { places_count devices.now < 2 ^ 32 }
-        ensures nets { IfOk result (λ nets. nets ≡ nets_of devices.now) }
+    pub fn of_nets(alloc: Global, devices: &[&DevCard]) -> Result<Names, AllocError>
+        requires { places_count (map (λ d. d.now) devices.now) < 2 ^ 32 }
+        ensures nets { IfOk result (λ nets. nets ≡ nets_of (map (λ d. d.now) devices.now)) }
     {
         let mut set = IndexSet::new(alloc);
         for device in devices {

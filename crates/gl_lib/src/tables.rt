@@ -1,9 +1,9 @@
 ghost use Rattle.std.specs.Prelude.{◌≡◌, IfOk};
-ghost use Rattle.gl_lib.specs.Tables.{AreSound, AreTablesOf};
+ghost use Rattle.gl_lib.specs.Tables.{ArePartsSound, AreTablesOf, source_of};
 
-use crate::Parts;
 use crate::kinds::Kinds;
 use crate::names::Names;
+use crate::parts::Parts;
 use crate::words::{Words, words_of};
 use std::alloc::{AllocError, Global};
 
@@ -20,12 +20,15 @@ pub struct Tables {
 
 /// The tables of a base.
 pub fn tables_of(alloc: Global, parts: &Parts) -> Result<Tables, AllocError>
-    requires { AreSound parts.now }
-    ensures tables { IfOk result (AreTablesOf parts.now) }
+    requires { ArePartsSound parts.now }
+    ensures tables { IfOk result (AreTablesOf (source_of parts.now)) }
 {
-    let words = words_of(alloc, parts.deck_models, parts.library_models)?;
-    let kinds = Kinds::of(alloc, &words, parts.devices, parts.cell)?;
-    let rails = Names::of_rails(alloc, parts.rails)?;
+    let flat = parts.flat;
+    let library = parts.library.deck();
+    let words = words_of(alloc, flat.models(), library.models())?;
+    let subs = library.subs().values().as_slice();
+    let kinds = Kinds::of(alloc, &words, flat.devices(), subs)?;
+    let rails = Names::of_rails(alloc, flat.rails())?;
     Ok(Tables {
         words,
         kinds,

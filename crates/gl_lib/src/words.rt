@@ -1,11 +1,15 @@
 ghost use Rattle.std.specs.Prelude.{◌≡◌, ◌∷◌, ◌++◌, ℕ, List, [], IfOk, OnOk};
 ghost use Rattle.indexmap.specs.IndexMap.{get};
 ghost use Rattle.gl_text.specs.LogicalLines.{same_text};
-ghost use Rattle.gl_base.specs.TypeNames.{word_of, type_by};
+ghost use Rattle.std.specs.Option.{option_copied};
+ghost use Rattle.gl_card.specs.Letters.{byte_of};
+ghost use Rattle.gl_base.specs.TypeNames.{word_of, type_by, type_by_model};
 ghost use Rattle.gl_lib.specs.Keys.{first_of};
+ghost use Rattle.gl_lib.specs.Sources as flat;
 
 use crate::type_name::TypeName;
-use gl_card::{DevCard, ModelCard, Name};
+use gl_card::{DevCard, Letter, ModelCard, Name};
+use gl_flat::FlatDevice;
 use indexmap::IndexMap;
 use std::alloc::{AllocError, Global};
 
@@ -55,15 +59,38 @@ pub fn words_of(
     Ok(words)
 }
 
+/// The type of a letter with a model.
+fn type_with(
+    alloc: Global,
+    words: &Words,
+    letter: Letter,
+    model: Option<&Name>,
+) -> Result<TypeName, AllocError>
+    ensures kind { IfOk result (λ kind. kind ≡ type_by_model (get same_text words.now) (byte_of letter) (option_copied model.entry)) }
+{
+    let Some(model) = model else {
+        return Ok(TypeName::of_letter(letter));
+    };
+    match words.get(model) {
+        Some(word) => Ok(TypeName::of_word(letter, copy_of(alloc, word)?)),
+        None => Ok(TypeName::of_model(letter, copy_of(alloc, model)?)),
+    }
+}
+
 /// The type of a device.
 pub fn type_of(alloc: Global, words: &Words, card: &DevCard) -> Result<TypeName, AllocError>
     ensures kind { IfOk result (λ kind. kind ≡ type_by (get same_text words.now) card.now) }
 {
-    let Some(model) = card.model() else {
-        return Ok(TypeName::of_letter(card.letter()));
-    };
-    match words.get(model) {
-        Some(word) => Ok(TypeName::of_word(card.letter(), copy_of(alloc, word)?)),
-        None => Ok(TypeName::of_model(card.letter(), copy_of(alloc, model)?)),
-    }
+    type_with(alloc, words, card.letter(), card.model())
+}
+
+/// The type of a flat device.
+pub fn flat_type(
+    alloc: Global,
+    words: &Words,
+    device: &FlatDevice,
+) -> Result<TypeName, AllocError>
+    ensures kind { IfOk result (λ kind. kind ≡ flat.type_of_flat (type_by (get same_text words.now)) device.now) }
+{
+    type_with(alloc, words, device.letter, device.model())
 }

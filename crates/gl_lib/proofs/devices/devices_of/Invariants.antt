@@ -6,4 +6,4 @@ use Rattle.gl_base.specs.BaseCircuit.{device_by}
 use Rattle.gl_lib.proofs.devices.devices_of.Given as goal
 
 abbrev pub invariant-loop-card : goal.invariant-loop-card
-invariant-loop-card l = l.devices.items ≡ map (device_by (type_by (get same_text l.words)) l.kinds l.nets) (take l.card-index l.cards)
+invariant-loop-card l = l.devices.items ≡ map (device_by (type_by (get same_text l.words)) l.kinds l.nets) (map (λ c. c.now) (take l.card-index l.cards))

@@ -1,15 +1,19 @@
+use Rattle.std.proofs.Common.{map, length, arith}
+use Rattle.std.proofs.lemmas.List.{length-map}
 use Rattle.indexmap.specs.IndexMap.{get}
 use Rattle.gl_text.specs.LogicalLines.{same_text}
 use Rattle.gl_base.specs.TypeNames.{type_by}
+use Rattle.gl_lib.specs.Sources.{type_of_flat, cards_of_cells}
 use Rattle.gl_lib.proofs.KindLaws.{kinds_inserted, few_kinds}
 use Rattle.gl_lib.proofs.kinds.Kinds.of.Goals as goal
 
 pub returns : goal.returns
 returns c = record {
-  types = kinds_inserted (type_by (get same_text c.args.words.now)) _ _ _ c.args.devices.now c.args.cell.now c.new-set.ensures.empty c.in_ok-add_types.ensures.added c.in_ok-add_types-2.ensures.added;
+  types = kinds_inserted _ _ _ _ _ c.new-set.ensures.empty c.in_ok-add_flat_types.ensures.added c.in_ok-add_library_types.ensures.added;
 }
 
 pub invariant_of-result : goal.invariant_of-result
 invariant_of-result c =
-    let types = kinds_inserted (type_by (get same_text c.args.words.now)) _ _ _ c.args.devices.now c.args.cell.now c.new-set.ensures.empty c.in_ok-add_types.ensures.added c.in_ok-add_types-2.ensures.added in
-    few_kinds (type_by (get same_text c.args.words.now)) _ c.args.devices.now c.args.cell.now _ types c.requires
+    let type = type_by (get same_text c.args.words.now) in
+    let types = kinds_inserted _ _ _ _ _ c.new-set.ensures.empty c.in_ok-add_flat_types.ensures.added c.in_ok-add_library_types.ensures.added in
+    few_kinds _ _ _ _ types (omega (arith, length-map c.args.devices.now (type_of_flat type), length-map (cards_of_cells c.args.cells.now) type, c.requires))

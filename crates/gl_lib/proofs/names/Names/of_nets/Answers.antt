@@ -1,4 +1,4 @@
-use Rattle.std.proofs.Common.{◌∙◌, ap, arith, flat_map}
+use Rattle.std.proofs.Common.{◌∙◌, ap, arith, map, flat_map}
 use Rattle.indexmap.specs.IndexSet.{insert_all}
 use Rattle.gl_text.specs.LogicalLines.{same_text}
 use Rattle.gl_text.specs.Cards.{Device as Card}
@@ -6,15 +6,16 @@ use Rattle.gl_lib.proofs.InsertLaws.{nodes_step, nodes_done, few_names, places_a
 use Rattle.gl_lib.proofs.names.Names.of_nets.Goals as goal
 
 pub returns : goal.returns
-returns c = record { nets = nodes_done _ _ _ c.loop-device-test.false c.loop-device.invariant }
+returns c = record { nets = nodes_done (λ d. d.now) _ _ _ c.loop-device-test.false c.loop-device.invariant }
 
 pub invariant_of-result : goal.invariant_of-result
 invariant_of-result c =
-    few_names _ (flat_map (λ (d : Card). d.nodes) c.args.devices.now) _ (nodes_done _ _ _ c.loop-device-test.false c.loop-device.invariant)
-    (omega (arith, places_are c.args.devices.now, c.requires))
+    let cards = map (λ d. d.now) c.args.devices.now in
+    few_names _ (flat_map (λ (d : Card). d.nodes) cards) _ (nodes_done (λ d. d.now) _ _ _ c.loop-device-test.false c.loop-device.invariant)
+    (omega (arith, places_are cards, c.requires))
 
 pub loop-device-preserved : goal.loop-device-preserved
 loop-device-preserved c =
-    nodes_step _ _ _ _ c.device-item.result _ c.loop-device-test.true c.device-item.is
+    nodes_step (λ d. d.now) _ _ _ _ c.device-item.result _ c.loop-device-test.true c.device-item.is
     (c.in_ok-add_names.ensures.added ∙ ap (insert_all same_text c.loop-device.set.keys) c.nodes.ensures.nodes)
     c.loop-device.invariant
