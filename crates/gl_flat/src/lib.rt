@@ -1,6 +1,7 @@
 //! Decks flattened: every device with its flat name and its nets, or the first refusal.
 #![tactic(auto)]
 
+mod cell;
 mod chosen;
 mod clash;
 mod copy;
@@ -24,6 +25,7 @@ mod step;
 mod tests;
 mod way;
 
+pub use cell::first_clash;
 pub use fault::{FlatFault, What};
 pub use flat::{Flat, FlatDevice};
 pub use flattening::flatten;
