@@ -1,2 +1,7 @@
 pub mod FlatParts
 pub mod FlatNets
+pub mod Sound
+pub mod CellsWhole
+pub mod ReadFiles
+pub mod RailLaws
+pub mod InsertLaws

@@ -1,1 +1,3 @@
 pub mod FlatParts
+pub mod Liftable
+pub mod Sources

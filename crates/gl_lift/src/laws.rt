@@ -1,14 +1,20 @@
-ghost use Rattle.std.specs.Prelude.{◌≡◌, ◌<◌, List, ℕ, None, Ok, All, length, map};
-ghost use Rattle.gl_text.specs.Decks.{Deck};
-ghost use Rattle.gl_text.specs.Flattening.{Flat, FlatDevice, flatten, flat_card};
-ghost use Rattle.gl_base.specs.BaseCircuit.{nets_of};
-ghost use Rattle.gl_flat.specs.Numbered.{NumberedDevice, nets_of as flat_nets, numbered, named_card};
-ghost use Rattle.gl_lift.specs.FlatParts.{IsFlatOf};
+//! Laws over the definitions: each is the contract of a function that does nothing.
+ghost use Rattle.std.specs.Prelude.{◌≡◌, ◌≤◌, List, ℕ, Ok, length, true};
+ghost use Rattle.gl_text.specs.Decks.{Deck, read_deck};
+ghost use Rattle.gl_text.specs.Flattening.{Flat};
+ghost use Rattle.gl_base.specs.Libraries.{Library};
+ghost use Rattle.gl_base.specs.Lifting.{flat_deck, taken_library};
+ghost use Rattle.gl_flat.specs.Numbered.{numbered};
+ghost use Rattle.gl_lift.specs.Sources.{AreSound};
+ghost use Rattle.gl_lift.specs.Liftable.{IsLiftable, IsSearchable};
 
-/// Scratch.
-pub fn scratch()
-    ensures parts { (deck : Deck) (rails : List (List ℕ)) (w : Flat) → flatten deck rails None ≡ Ok w → IsFlatOf deck rails w }
-    ensures nets { (ds : List FlatDevice) → flat_nets ds ≡ nets_of (map flat_card ds) }
-    ensures below { (w : Flat) → All (λ (d : NumberedDevice). All (λ net. net < length (numbered w).nets) d.nodes) (numbered w).devices }
-    ensures cards { (w : Flat) → map (named_card (numbered w).nets) (numbered w).devices ≡ map flat_card w.devices }
+/// A deck that was read from a file is lifted, and a library that is taken from a file is searched.
+pub fn taken_files_are_lifted()
+    ensures deck { (bytes : List ℕ) (deck : Deck) → length bytes ≤ 67108864 → read_deck true bytes ≡ Ok deck → IsLiftable deck }
+    ensures library { (bytes : List ℕ) (library : Library) → length bytes ≤ 67108864 → taken_library bytes ≡ Ok library → IsSearchable library }
+{}
+
+/// Of the flat deck of a deck that is lifted, and of a library that is searched, circuit and patterns are made.
+pub fn flat_decks_are_sound()
+    ensures sound { (deck : Deck) (library : Library) (flat : Flat) → IsLiftable deck → IsSearchable library → flat_deck deck library ≡ Ok flat → AreSound (numbered flat) library }
 {}

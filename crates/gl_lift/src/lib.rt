@@ -3,4 +3,4 @@
 
 mod laws;
 
-pub use laws::scratch;
+pub use laws::{flat_decks_are_sound, taken_files_are_lifted};
