@@ -1,7 +1,9 @@
 #!/usr/bin/env bash
 # Runs the built program on each folder of examples/ and compares what it writes, says and ends with, byte for byte.
-# A folder has deck.sp and library.sp; report.txt is the report that must be written (none: none may be),
-# says.txt what must be said (none: nothing), status the status (none: 0), about.txt a line on what it shows.
+# A folder has deck.sp, and about.txt, a line on what it shows.
+#   library.sp is there: `lift` is run. report.txt is the report that must be written (none: none may be).
+#   flat.txt is there, or no library.sp: `flat` is run. flat.txt is the flat deck that must be written (none: none may be).
+# says.txt is what must be said (none: nothing), and status the status (none: 0), of each job whose output is not there.
 # The last line is 'N passed, M failed'.
 set -u
 top=$(cd "$(dirname "$0")/.." && pwd)
@@ -17,24 +19,37 @@ same() {
     if [ -e "$2" ]; then cmp -s "$1" "$2"; else [ ! -s "$1" ]; fi
 }
 
-for folder in "$top"/examples/*/; do
-    name=$(basename "$folder")
+# try LABEL FOLDER WANTED WORD..: the words' job must write the wanted file at $room/written, or write none, say and end as the folder has it
+try() {
+    local label=$1 folder=$2 wanted=$3 says status wanted_status=0 wrong=""
+    shift 3
     rm -rf "${room:?}"/*
-    "$program" lift "$folder/deck.sp" "$folder/library.sp" "$room/lifted" "$room/map" "$room/report" >"$room/says" 2>"$room/errors"
+    "$program" "$@" >"$room/says" 2>"$room/errors"
     status=$?
-    wanted=$(cat "$folder/status" 2>/dev/null || echo 0)
-    wrong=""
-    [ "$status" = "$wanted" ] || wrong="$wrong status $status, not $wanted;"
-    same "$room/report" "$folder/report.txt" || wrong="$wrong another report;"
-    [ -e "$folder/report.txt" ] || [ ! -e "$room/report" ] || wrong="$wrong a report was opened;"
-    same "$room/says" "$folder/says.txt" || wrong="$wrong says otherwise;"
+    says=$folder/says.txt
+    if [ -e "$wanted" ]; then says=$room/nothing; else wanted_status=$(cat "$folder/status" 2>/dev/null || echo 0); fi
+    [ "$status" = "$wanted_status" ] || wrong="$wrong status $status, not $wanted_status;"
+    same "$room/written" "$wanted" || wrong="$wrong writes otherwise;"
+    [ -e "$wanted" ] || [ ! -e "$room/written" ] || wrong="$wrong an output was opened;"
+    same "$room/says" "$says" || wrong="$wrong says otherwise;"
     [ ! -s "$room/errors" ] || wrong="$wrong wrote to standard error;"
     if [ -z "$wrong" ]; then
         passed=$((passed + 1))
-        echo "$name: passed"
+        echo "$label: passed"
     else
         failed=$((failed + 1))
-        echo "$name:$wrong"
+        echo "$label:$wrong"
+    fi
+}
+
+for folder in "$top"/examples/*/; do
+    folder=${folder%/}
+    name=$(basename "$folder")
+    if [ -e "$folder/library.sp" ]; then
+        try "$name, lift" "$folder" "$folder/report.txt" lift "$folder/deck.sp" "$folder/library.sp" "$room/lifted" "$room/map" "$room/written"
+    fi
+    if [ -e "$folder/flat.txt" ] || [ ! -e "$folder/library.sp" ]; then
+        try "$name, flat" "$folder" "$folder/flat.txt" flat "$folder/deck.sp" "$room/written"
     fi
 done
 echo "$passed passed, $failed failed"

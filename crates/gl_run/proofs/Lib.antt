@@ -1,3 +1,4 @@
 pub mod Fronts
 pub mod Told
 pub mod Reported
+pub mod Flattened

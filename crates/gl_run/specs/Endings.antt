@@ -1,12 +1,10 @@
--- What each ending of a run means: of the words, of what the inputs held, and of what the output was given.
-use Rattle.std.specs.Prelude.{◌≡◌, ◌≢◌, ℕ, ◌≤◌, length, List, [], Option, None, Some, take, Err, IfSome}
-use Rattle.gl_desk.specs.declared.slot.Slot.{Slot}
+-- What each ending of the job `lift` means: of what the inputs held, and of what the output was given.
+use Rattle.std.specs.Prelude.{◌≡◌, ◌≢◌, ℕ, ◌≤◌, length, List, [], take, Err, IfSome}
 use Rattle.gl_desk.specs.declared.slot.Slot.TheVariants.{Deck, Library, Report}
 use Rattle.gl_text.specs.OneCell.{device_deck, cell_library}
 use Rattle.gl_taken.specs.Causes.{cause_of}
 use Rattle.gl_run.specs.declared.ending.Ending.{Ending}
 use Rattle.gl_run.specs.declared.ending.Ending.TheVariants as endings
-use Rattle.gl_run.specs.Words.{Request}
 use Rattle.gl_run.specs.Reading.{Seen, HasCause, IsLong}
 use Rattle.gl_run.specs.Lift.{IsReportOfBytes, IsDeck, IsLibrary}
 
@@ -51,8 +49,3 @@ Lifts endings.Done deck library report = IsDone deck library report
 Lifts (endings.Write Report) deck library report = IsUnwritten deck library report
 Lifts (endings.Write _) deck library report = ⊥
 Lifts ending deck library report = Unmade ending deck library
-
--- the same with the words: with none that name a job there is one ending
-abbrev pub Means : Ending → Option Request → (Slot → List ℕ → Seen) → Type 0
-Means ending None see = ending ≡ endings.Words
-Means ending (Some r) see = Lifts ending (see Deck r.deck) (see Library r.library) (see Report r.report)

@@ -2,6 +2,7 @@ pub mod Words
 pub mod Names
 pub mod RefusalTexts
 pub mod Parts
+pub mod FlatRefusals
 pub mod Messages
 pub mod Saying
 pub mod Reading
@@ -10,3 +11,6 @@ pub mod Inputs
 pub mod Endings
 pub mod Writing
 pub mod Completeness
+pub mod FlatEndings
+pub mod FlatInputs
+pub mod Jobs

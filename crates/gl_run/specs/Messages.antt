@@ -3,7 +3,8 @@ use Rattle.std.specs.Prelude.{ℕ, List, [], ◌++◌, codes}
 use Rattle.gl_desk.specs.declared.slot.Slot.{Slot}
 use Rattle.gl_desk.specs.declared.slot.Slot.TheVariants.{Deck, Library, Map, Lifted, NewMap, Report, Out, Says}
 use Rattle.gl_taken.specs.Causes.{cause_of}
-use Rattle.gl_run.specs.RefusalTexts.{cause_text}
+use Rattle.gl_run.specs.RefusalTexts.{fault_text, cause_text}
+use Rattle.gl_run.specs.FlatRefusals.{flat_fault}
 use Rattle.gl_run.specs.declared.ending.Ending.{Ending}
 use Rattle.gl_run.specs.declared.ending.Ending.TheVariants as endings
 
@@ -12,6 +13,7 @@ abbrev pub status_of : Ending → ℕ
 status_of endings.Done = 0
 status_of endings.Words = 1
 status_of (endings.DeckRefused refusal) = 2
+status_of (endings.FlatRefused refusal) = 2
 status_of (endings.LibraryRefused refusal) = 3
 status_of (endings.LongFile slot) = 6
 status_of (endings.Read slot) = 7
@@ -34,6 +36,7 @@ abbrev pub line_of : Ending → List ℕ
 line_of endings.Done = []
 line_of endings.Words = codes "gatelift: 1 words\n"
 line_of (endings.DeckRefused refusal) = codes "gatelift: 2 deck: " ++ cause_text (cause_of refusal) ++ codes "\n"
+line_of (endings.FlatRefused refusal) = codes "gatelift: 2 deck: " ++ fault_text (flat_fault refusal) ++ codes "\n"
 line_of (endings.LibraryRefused refusal) = codes "gatelift: 3 library: " ++ cause_text (cause_of refusal) ++ codes "\n"
 line_of (endings.LongFile slot) = codes "gatelift: 6 limit: LongFile slot=" ++ slot_name slot ++ codes " number=67108865\n"
 line_of (endings.Read slot) = codes "gatelift: 7 read: " ++ slot_name slot ++ codes "\n"

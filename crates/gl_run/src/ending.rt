@@ -2,18 +2,21 @@ ghost use Rattle.std.specs.Prelude.{◌≡◌};
 ghost use Rattle.gl_run.specs.Messages.{status_of};
 ghost use Rattle.gl_run.specs.declared.ending.Ending.{Ending as End};
 
+use crate::flat_refusal::FlatRefusal;
 use gl_desk::Slot;
 use gl_taken::Refusal;
 
 /// How a run ends.
-#[derive(Clone, Copy, Debug, PartialEq, Eq)]
+#[derive(Debug, Drop)]
 pub enum Ending {
     /// All is written.
     Done,
     /// The words name no job.
     Words,
-    /// The deck is refused.
+    /// The deck is refused as it is read.
     DeckRefused(Refusal),
+    /// The deck is refused as it is flattened.
+    FlatRefused(FlatRefusal),
     /// The library is refused.
     LibraryRefused(Refusal),
     /// The file at an input is longer than a file may be.
@@ -37,13 +40,14 @@ pub enum Ending {
 
 impl Ending {
     /// The status that the program ends with.
-    pub fn status(self) -> u8
-        ensures status { result ≡ status_of self }
+    pub fn status(&self) -> u8
+        ensures status { result ≡ status_of self.now }
     {
         match self {
             Ending::Done => 0,
             Ending::Words => 1,
             Ending::DeckRefused(_) => 2,
+            Ending::FlatRefused(_) => 2,
             Ending::LibraryRefused(_) => 3,
             Ending::LongFile { .. } => 6,
             Ending::Read { .. } => 7,

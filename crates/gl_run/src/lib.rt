@@ -2,8 +2,11 @@
 #![tactic(auto)]
 
 mod ending;
+mod flat;
+mod flat_refusal;
 mod inputs;
 mod job;
+mod lift;
 mod making;
 mod reading;
 mod refusal;
@@ -13,7 +16,10 @@ mod words;
 mod writing;
 
 pub use ending::Ending;
+pub use flat_refusal::FlatRefusal;
 pub use job::run;
 
 #[cfg(test)]
 mod tests;
+#[cfg(test)]
+mod tests_flat;

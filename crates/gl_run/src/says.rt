@@ -3,12 +3,15 @@ ghost use Rattle.gl_desk.specs.Desk.{Gives, GivesFront, OthersSame, NamesSame};
 ghost use Rattle.gl_run.specs.Messages.{slot_name};
 ghost use Rattle.gl_taken.specs.Causes.{cause_of};
 ghost use Rattle.gl_run.specs.Parts.{field_part, numbers_of};
-ghost use Rattle.gl_run.specs.RefusalTexts.{cause_text};
+ghost use Rattle.gl_run.specs.RefusalTexts.{fault_text, cause_text};
+ghost use Rattle.gl_run.specs.FlatRefusals.{flat_fault};
 ghost use Rattle.gl_run.specs.Saying.{GivesOrFails, Speaks};
 
 use crate::ending::Ending;
+use crate::flat_refusal::FlatRefusal;
 use crate::refusal::{Field, RefusalText, text_of_refusal};
 use gl_desk::{Desk, Failed, Slot, write_all};
+use gl_flat::What;
 use gl_taken::Refusal;
 use itoa::Buffer;
 
@@ -29,7 +32,7 @@ fn name_of(slot: Slot) -> &'static str
 }
 
 /// Gives three texts, one after another, and stops at the first call that fails.
-fn give_texts<D: Desk>(desk: &mut D, front: &str, middle: &str, end: &str) -> Result<(), Failed>
+fn give_texts<D: Desk>(desk: &mut D, front: &str, middle: &[u8], end: &str) -> Result<(), Failed>
     requires says { (D.shows desk.old Slot.Says).used ≡ true }
     ensures ok { OnOk result (Gives (D.shows desk.old Slot.Says) (D.shows desk.new Slot.Says) (front.now ++ middle.now ++ end.now)) }
     ensures err { OnErr result (GivesFront (D.shows desk.old Slot.Says) (D.shows desk.new Slot.Says) (front.now ++ middle.now ++ end.now)) }
@@ -37,13 +40,13 @@ fn give_texts<D: Desk>(desk: &mut D, front: &str, middle: &str, end: &str) -> Re
     ensures names { NamesSame D.held D.wants desk.old desk.new }
 {
     write_all(desk, Slot::Says, front.as_bytes())?;
-    write_all(desk, Slot::Says, middle.as_bytes())?;
+    write_all(desk, Slot::Says, middle)?;
     write_all(desk, Slot::Says, end.as_bytes())?;
     Ok(())
 }
 
 /// Says three texts, or a front of them up to a call that fails. It takes no memory.
-fn say_texts<D: Desk>(desk: &mut D, front: &str, middle: &str, end: &str)
+fn say_texts<D: Desk>(desk: &mut D, front: &str, middle: &[u8], end: &str)
     requires says { (D.shows desk.old Slot.Says).used ≡ true }
     ensures given { GivesOrFails (D.shows desk.old Slot.Says) (D.shows desk.new Slot.Says) (front.now ++ middle.now ++ end.now) }
     ensures others { OthersSame D.shows desk.old desk.new Slot.Says }
@@ -163,28 +166,81 @@ fn say_refusal<D: Desk>(desk: &mut D, front: &str, refusal: Refusal)
     }
 }
 
-/// Says the line of an ending, or its front up to a call that fails; nothing where all is written. It takes no memory.
-pub fn say<D: Desk>(desk: &mut D, ending: Ending)
+/// Says a number between two texts. It takes no memory.
+fn say_number<D: Desk>(desk: &mut D, front: &str, number: u32)
     requires says { (D.shows desk.old Slot.Says).used ≡ true }
-    ensures line { Speaks ending (D.shows desk.old Slot.Says) (D.shows desk.new Slot.Says) }
+    ensures given { GivesOrFails (D.shows desk.old Slot.Says) (D.shows desk.new Slot.Says) (front.now ++ decimal number ++ codes "\n") }
+    ensures others { OthersSame D.shows desk.old desk.new Slot.Says }
+    ensures names { NamesSame D.held D.wants desk.old desk.new }
+{
+    let mut buffer = Buffer::new();
+    say_texts(desk, front, buffer.format(number).as_bytes(), "\n");
+}
+
+/// Says that a deck is refused as it is flattened. It takes no memory.
+fn say_flat<D: Desk>(desk: &mut D, refusal: &FlatRefusal)
+    requires says { (D.shows desk.old Slot.Says).used ≡ true }
+    ensures given { GivesOrFails (D.shows desk.old Slot.Says) (D.shows desk.new Slot.Says) (codes "gatelift: 2 deck: " ++ fault_text (flat_fault refusal.now) ++ codes "\n") }
+    ensures others { OthersSame D.shows desk.old desk.new Slot.Says }
+    ensures names { NamesSame D.held D.wants desk.old desk.new }
+{
+    match refusal {
+        FlatRefusal::NameClash { name } => {
+            say_texts(desk, "gatelift: 2 deck: 20 NameClash name=", name.as_bytes(), "\n")
+        }
+        FlatRefusal::LongFlatName { len } => {
+            say_number(desk, "gatelift: 2 deck: 21 LongFlatName len=", *len)
+        }
+        FlatRefusal::TooMany {
+            what: What::Cards,
+            number,
+        } => say_number(desk, "gatelift: 2 deck: 22 TooMany what=Cards number=", *number),
+        FlatRefusal::TooMany {
+            what: What::Devices,
+            number,
+        } => say_number(desk, "gatelift: 2 deck: 22 TooMany what=Devices number=", *number),
+        FlatRefusal::TooDeep { number } => {
+            say_number(desk, "gatelift: 2 deck: 23 TooDeep number=", *number)
+        }
+        FlatRefusal::NoTop { name } => {
+            say_texts(desk, "gatelift: 2 deck: 24 NoTop name=", name.as_bytes(), "\n")
+        }
+        FlatRefusal::TopDevices { line } => {
+            say_number(desk, "gatelift: 2 deck: 25 TopDevices line=", *line)
+        }
+        FlatRefusal::LongText { number } => {
+            say_number(desk, "gatelift: 2 deck: 26 LongText number=", *number)
+        }
+    }
+}
+
+/// Says the line of an ending, or its front up to a call that fails; nothing where all is written. It takes no memory.
+pub fn say<D: Desk>(desk: &mut D, ending: &Ending)
+    requires says { (D.shows desk.old Slot.Says).used ≡ true }
+    ensures line { Speaks ending.now (D.shows desk.old Slot.Says) (D.shows desk.new Slot.Says) }
     ensures others { OthersSame D.shows desk.old desk.new Slot.Says }
     ensures names { NamesSame D.held D.wants desk.old desk.new }
 {
     match ending {
         Ending::Done => {}
-        Ending::Words => say_texts(desk, "gatelift: 1 words\n", "", ""),
-        Ending::DeckRefused(refusal) => say_refusal(desk, "gatelift: 2 deck: ", refusal),
-        Ending::LibraryRefused(refusal) => say_refusal(desk, "gatelift: 3 library: ", refusal),
+        Ending::Words => say_texts(desk, "gatelift: 1 words\n", b"", ""),
+        Ending::DeckRefused(refusal) => say_refusal(desk, "gatelift: 2 deck: ", *refusal),
+        Ending::FlatRefused(refusal) => say_flat(desk, refusal),
+        Ending::LibraryRefused(refusal) => say_refusal(desk, "gatelift: 3 library: ", *refusal),
         Ending::LongFile { slot } => {
             say_texts(
                 desk,
                 "gatelift: 6 limit: LongFile slot=",
-                name_of(slot),
+                name_of(*slot).as_bytes(),
                 " number=67108865\n",
             )
         }
-        Ending::Read { slot } => say_texts(desk, "gatelift: 7 read: ", name_of(slot), "\n"),
-        Ending::Write { slot } => say_texts(desk, "gatelift: 8 write: ", name_of(slot), "\n"),
-        Ending::Memory => say_texts(desk, "gatelift: 9 memory\n", "", ""),
+        Ending::Read { slot } => {
+            say_texts(desk, "gatelift: 7 read: ", name_of(*slot).as_bytes(), "\n")
+        }
+        Ending::Write { slot } => {
+            say_texts(desk, "gatelift: 8 write: ", name_of(*slot).as_bytes(), "\n")
+        }
+        Ending::Memory => say_texts(desk, "gatelift: 9 memory\n", b"", ""),
     }
 }

@@ -41,8 +41,13 @@ fn desk_of(alloc: Global, cards: &str, library: &str) -> Result<MemoryDesk, Memo
     Ok(desk)
 }
 
-/// What the run answers: its status, what the report was given and what was said, each in brackets.
-fn answer(alloc: Global, mut desk: MemoryDesk, text: &str) -> Result<Vec<u8>, Memory>
+/// What the run answers: its status, what an output was given and what was said, each in brackets.
+pub fn answer(
+    alloc: Global,
+    mut desk: MemoryDesk,
+    output: Slot,
+    text: &str,
+) -> Result<Vec<u8>, Memory>
     requires { IsFresh view_of desk }
 {
     let words = words_of(alloc, text)?;
@@ -50,7 +55,7 @@ fn answer(alloc: Global, mut desk: MemoryDesk, text: &str) -> Result<Vec<u8>, Me
     let mut said = Vec::new(alloc);
     said.push(b'0' + status % 10)?;
     said.push(b'[')?;
-    said.extend_from_slice(desk.text(Slot::Report).unwrap_or(b"none"))?;
+    said.extend_from_slice(desk.text(output).unwrap_or(b"none"))?;
     said.extend_from_slice(b"][")?;
     said.extend_from_slice(desk.text(Slot::Says).unwrap_or(b"none"))?;
     said.push(b']')?;
@@ -62,6 +67,7 @@ fn lifted(alloc: Global, cards: &str, library: &str) -> Result<Vec<u8>, Memory> 
     answer(
         alloc,
         desk_of(alloc, cards, library)?,
+        Slot::Report,
         "lift deck library lifted map report",
     )
 }
@@ -271,7 +277,7 @@ fn other_words(rt: HostRuntime) -> Result<(), Memory> {
         "lift deck library lifted map report more",
         "flat deck library lifted map report",
     ] {
-        let found = answer(alloc, desk_of(alloc, "", INV)?, text)?;
+        let found = answer(alloc, desk_of(alloc, "", INV)?, Slot::Report, text)?;
         assert!(rt; found.as_slice() == b"1[none][gatelift: 1 words\n]".as_slice());
     }
     Ok(())
@@ -281,7 +287,7 @@ fn other_words(rt: HostRuntime) -> Result<(), Memory> {
 fn faulty(alloc: Global, kind: CallKind, number: u32) -> Result<Vec<u8>, Memory> {
     let mut desk = desk_of(alloc, "m1 out in vdd vdd pch\nm2 out in 0 0 nch\n", INV)?;
     desk.fail(kind, number)?;
-    answer(alloc, desk, "lift deck library lifted map report")
+    answer(alloc, desk, Slot::Report, "lift deck library lifted map report")
 }
 
 #[test]
