@@ -1,1 +1,3 @@
+mod NameLaws
+mod PlacedLaws
 mod RankLaws

@@ -1,3 +1,4 @@
 pub mod Causes
+pub mod Outlines
 pub mod Samples
 pub mod Skips

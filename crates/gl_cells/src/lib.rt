@@ -3,8 +3,12 @@
 
 mod fault;
 mod laws;
+mod levels;
 mod library;
+mod outline;
+mod ports;
 mod skip;
+mod skips;
 
 pub use fault::{LibFault, Limit};
 pub use gl_deck::{Body, Deck, DeckFault, Name, Sub};
