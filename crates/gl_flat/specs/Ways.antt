@@ -1,10 +1,12 @@
 -- X cards on the way to a card, and the place to which they lead.
 use Rattle.std.specs.Prelude.{◌≡◌, ℕ, List, [], ◌∷◌, ◌++◌, map, fold, zip, Option, Some, None, position, slice_get}
+use Rattle.std.specs.List.{AllByRecursion}
 use Rattle.indexmap.specs.IndexMap.{IndexMap, keys, values}
 use Rattle.gl_text.specs.LogicalLines.{same_text}
 use Rattle.gl_text.specs.Cards.{Call}
 use Rattle.gl_text.specs.Decks as decks
 use Rattle.gl_text.specs.Flattening.{Net, Place, top_place, net_of}
+use Rattle.gl_printed.specs.ReadDecks.{AllDiffer}
 use Rattle.gl_deck.specs.Bodies.{names_of}
 use Rattle.gl_flat.specs.declared.step.Step.{Step}
 use Rattle.gl_flat.specs.declared.scene.Scene.{Scene}
@@ -28,6 +30,10 @@ node_at nodes (Some place) = slice_get nodes place
 
 abbrev pub actual_node : Step → List ℕ → Option (List ℕ)
 actual_node s name = node_at s.call.now.nodes (position (same_text name) s.ports.now.keys)
+
+-- no subcircuit has a port twice
+abbrev pub PortsDiffer : List decks.Sub → Type 0
+PortsDiffer subs = AllByRecursion (λ (s : decks.Sub). AllDiffer s.head.ports) subs
 
 -- each subcircuit stands under its name, and its ports are known
 pub record IsScene (s : Scene) : Type 0 where

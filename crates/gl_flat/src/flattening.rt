@@ -37,7 +37,7 @@ const DEPTH: usize = 32;
 const TEXT: usize = 67_108_864;
 
 /// Each of the names once.
-fn name_set(alloc: Global, names: &[Name]) -> Result<IndexSet<Name>, AllocError>
+pub fn name_set(alloc: Global, names: &[Name]) -> Result<IndexSet<Name>, AllocError>
     ensures names { IfOk result (λ set. set.keys ≡ once names.now) }
 {
     let mut set = IndexSet::new(alloc);
@@ -48,7 +48,7 @@ fn name_set(alloc: Global, names: &[Name]) -> Result<IndexSet<Name>, AllocError>
 }
 
 /// The ports of subcircuits, by their places.
-fn port_sets(alloc: Global, subs: &[Sub]) -> Result<Vec<IndexSet<Name>>, AllocError>
+pub fn port_sets(alloc: Global, subs: &[Sub]) -> Result<Vec<IndexSet<Name>>, AllocError>
     ensures ports { IfOk result (λ sets. map (λ s. s.keys) sets.items ≡ map (λ s. once s.head.ports) subs.now) }
 {
     let mut sets = Vec::with_capacity(alloc, subs.len())?;
@@ -169,7 +169,7 @@ fn judged<'a>(
 }
 
 /// The devices of cards.
-fn expanded<'a>(
+pub fn expanded<'a>(
     alloc: Global,
     scene: &Scene<'a>,
     cards: &'a [Body],

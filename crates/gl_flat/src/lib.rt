@@ -1,6 +1,7 @@
 //! Decks flattened: every device with its flat name and its nets, or the first refusal.
 #![tactic(auto)]
 
+mod cell;
 mod chosen;
 mod clash;
 mod copy;
@@ -8,6 +9,7 @@ mod expand;
 mod fault;
 mod flat;
 mod flattening;
+mod laws;
 mod length;
 mod long;
 mod named;
@@ -24,9 +26,11 @@ mod step;
 mod tests;
 mod way;
 
+pub use cell::first_clash;
 pub use fault::{FlatFault, What};
 pub use flat::{Flat, FlatDevice};
 pub use flattening::flatten;
 pub use gl_deck::{
     Body, CallCard, Deck, DevCard, Head, Letter, Memory, ModelCard, Name, Sub, Tail,
 };
+pub use laws::numbered_texts_are_flat_texts;

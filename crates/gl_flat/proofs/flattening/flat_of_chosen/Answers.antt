@@ -5,7 +5,7 @@ use Rattle.gl_text.specs.Decks.{Sub, once}
 use Rattle.gl_text.specs.Flattening.{DEPTH}
 use Rattle.gl_deck.specs.Bodies.{bodies_value}
 use Rattle.gl_flat.specs.Steps.{judged}
-use Rattle.gl_flat.proofs.SoundLaws.{once_same, ports_once}
+use Rattle.gl_flat.proofs.SoundLaws.{once_same, ports_differ, ports_once}
 use Rattle.gl_flat.proofs.StepLaws.{gives_same, same_devices, no_memory}
 use Rattle.gl_flat.proofs.flattening.flat_of_chosen.Goals as goal
 
@@ -27,7 +27,7 @@ flat_of_cards-requires-clause-scene c =
     let given : c.as_slice.result.now ≡ subs = c.as_slice.ensures ∙ c.values.ensures.rest ∙ c.subs.ensures.subs in
     record {
       keyed = c.subs-2.ensures.keyed;
-      ports = ap (map (λ s. s.keys)) c.deref.ensures.value ∙ c.in_ok-ports.ensures.ports ∙ ap (map (λ (s : Sub). once s.head.ports)) given ∙ ports_once subs subs c.requires.sound.subs ∙ ap (map (λ (s : Sub). s.head.ports)) (sym c.subs-2.ensures.subs);
+      ports = ap (map (λ s. s.keys)) c.deref.ensures.value ∙ c.in_ok-ports.ensures.ports ∙ ap (map (λ (s : Sub). once s.head.ports)) given ∙ ports_once subs (ports_differ subs subs c.requires.sound.subs) ∙ ap (map (λ (s : Sub). s.head.ports)) (sym c.subs-2.ensures.subs);
     }
 
 pub returns : goal.returns
