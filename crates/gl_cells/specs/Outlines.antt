@@ -1,6 +1,7 @@
 -- What is kept of a cell to find its level and whether it is skipped, by the places of the cells in their list.
-use Rattle.std.specs.Prelude.{ℕ, suc, ◌||◌, Bool, List, map, is_some, slice_index}
-use Rattle.gl_text.specs.Decks.{Sub}
+use Rattle.std.specs.Prelude.{ℕ, suc, ◌||◌, Bool, List, map, find, Option, is_some, option_to_list, slice_index}
+use Rattle.gl_text.specs.Decks.{Body, Sub, callees}
+use Rattle.gl_deck.specs.Levels.{place_in}
 use Rattle.gl_size.specs.Tallies.{calls_of, has_mark}
 use Rattle.gl_base.specs.Libraries.{greatest, level_through, own_skip, is_skipped_through}
 
@@ -31,3 +32,7 @@ levels_through subs calls = map (level_through subs calls) subs
 -- whether each cell is skipped, through fewer than so many calls
 abbrev pub marks_through : List Sub → ℕ → List Bool
 marks_through subs calls = map (is_skipped_through subs calls) subs
+
+-- the first cell that cards call and that is skipped, by whether each is
+abbrev pub marked_callee : List Bool → List Sub → List Body → Option (List ℕ)
+marked_callee marks subs cards = find (λ name. has_mark marks (option_to_list (place_in subs name))) (callees cards)

@@ -5,6 +5,7 @@ mod fault;
 mod laws;
 mod levels;
 mod library;
+mod limits;
 mod outline;
 mod ports;
 mod skip;

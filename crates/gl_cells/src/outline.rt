@@ -56,7 +56,7 @@ impl Outline {
 }
 
 /// Where the cell of this name stands in the table.
-fn place_of(subs: &IndexMap<Name, Sub>, name: &Name) -> Option<usize>
+pub fn place_of(subs: &IndexMap<Name, Sub>, name: &Name) -> Option<usize>
     requires keyed { keys subs.now ≡ names_of (values subs.now) }
     ensures place { result ≡ place_in (values subs.now) name.now }
 {
@@ -64,7 +64,7 @@ fn place_of(subs: &IndexMap<Name, Sub>, name: &Name) -> Option<usize>
 }
 
 /// Where the cell that a card calls stands in the table.
-pub fn called_place(subs: &IndexMap<Name, Sub>, card: &Body) -> Option<usize>
+fn called_place(subs: &IndexMap<Name, Sub>, card: &Body) -> Option<usize>
     requires keyed { keys subs.now ≡ names_of (values subs.now) }
     ensures place { option_to_list result ≡ calls_of (values subs.now) (bodies_value (card.now ∷ [])) }
 {

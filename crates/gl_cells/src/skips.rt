@@ -1,17 +1,17 @@
 //! The cells that are skipped.
-ghost use Rattle.std.specs.Prelude.{◌≡◌, [], ◌∷◌, false, List, length, map, option_map, slice_index_or, IfOk};
+ghost use Rattle.std.specs.Prelude.{◌≡◌, [], ◌∷◌, false, List, length, map, option_map, option_to_list, slice_index_or, IfOk};
 ghost use Rattle.std.specs.Option.{option_copied};
 ghost use Rattle.indexmap.specs.IndexMap.{keys, values};
-ghost use Rattle.gl_text.specs.Decks.{Sub};
+ghost use Rattle.gl_text.specs.Decks.{Sub as SubValue};
 ghost use Rattle.gl_deck.specs.Bodies.{bodies_value, names_of};
-ghost use Rattle.gl_size.specs.Tallies.{calls_of, has_mark};
-ghost use Rattle.gl_base.specs.Libraries as libraries;
-ghost use Rattle.gl_base.specs.Libraries.{is_skipped_through, skipped_callee};
+ghost use Rattle.gl_deck.specs.Levels.{place_in};
+ghost use Rattle.gl_size.specs.Tallies.{has_mark};
+ghost use Rattle.gl_base.specs.Libraries.{own_skip as own_skip_of, uses_else};
 ghost use Rattle.gl_cells.specs.Outlines as outlines;
-ghost use Rattle.gl_cells.specs.Outlines.{marks_through, outlines_of};
+ghost use Rattle.gl_cells.specs.Outlines.{marked_callee, marks_through, outlines_of};
 ghost use Rattle.gl_cells.specs.Skips.{skip_value};
 
-use crate::outline::{Outline, called_place};
+use crate::outline::{Outline, place_of};
 use crate::ports::own_skip;
 use crate::{Body, Name, Skip, Sub};
 use indexmap::IndexMap;
@@ -47,7 +47,7 @@ fn deeper_marks(alloc: Global, cells: &[Outline], marks: &[bool]) -> Result<Vec<
 
 /// For each cell whether it is skipped. It takes as many steps as there are X cards, for each cell.
 pub fn marks(alloc: Global, cells: &[Outline]) -> Result<Vec<bool>, AllocError>
-    ensures marks { IfOk result (λ v. (subs : List Sub) → cells.now ≡ outlines_of subs → v.items ≡ marks_through subs (length subs)) }
+    ensures marks { IfOk result (λ v. (subs : List SubValue) → cells.now ≡ outlines_of subs → v.items ≡ marks_through subs (length subs)) }
 {
     let mut marks = vec![in alloc; false; cells.len()]?;
     for calls in 0..cells.len() {
@@ -57,13 +57,72 @@ pub fn marks(alloc: Global, cells: &[Outline]) -> Result<Vec<bool>, AllocError>
     Ok(marks)
 }
 
-/// A card calls a cell that is marked.
-fn calls_marked(marks: &[bool], subs: &IndexMap<Name, Sub>, card: &Body) -> bool
+/// The cell of this name is skipped.
+fn is_name_marked(marks: &[bool], subs: &IndexMap<Name, Sub>, name: &Name) -> bool
     requires keyed { keys subs.now ≡ names_of (values subs.now) }
-    ensures marked { result ≡ has_mark marks.now (calls_of (values subs.now) (bodies_value (card.now ∷ []))) }
+    ensures marked { result ≡ has_mark marks.now (option_to_list (place_in (values subs.now) name.now)) }
 {
-    match called_place(subs, card) {
+    match place_of(subs, name) {
         Some(place) => is_marked(marks, place),
         None => false,
+    }
+}
+
+/// The name of the cell that a card calls, where that is skipped.
+fn marked_call<'a>(
+    marks: &[bool],
+    subs: &IndexMap<Name, Sub>,
+    card: &'a Body,
+) -> Option<&'a Name>
+    requires keyed { keys subs.now ≡ names_of (values subs.now) }
+    ensures first { option_copied result ≡ marked_callee marks.now (values subs.now) (bodies_value (card.now ∷ [])) }
+{
+    match card {
+        Body::Dev(_, _) => None,
+        Body::Call(_, call) => {
+            let name = call.sub();
+            if is_name_marked(marks, subs, name) {
+                return Some(name);
+            }
+            None
+        }
+    }
+}
+
+/// The name of the first cell that cards call and that is skipped.
+fn first_marked<'a>(
+    marks: &[bool],
+    subs: &IndexMap<Name, Sub>,
+    cards: &'a [Body],
+) -> Option<&'a Name>
+    requires keyed { keys subs.now ≡ names_of (values subs.now) }
+    ensures first { option_copied result ≡ marked_callee marks.now (values subs.now) (bodies_value cards.now) }
+{
+    let mut rest = cards;
+    while let [card, behind @ ..] = rest {
+        if let Some(name) = marked_call(marks, subs, card) {
+            return Some(name);
+        }
+        rest = behind;
+    }
+    None
+}
+
+/// Why a cell is skipped, if it is: by itself, else since it calls a cell that is skipped.
+pub fn skip(
+    alloc: Global,
+    subs: &IndexMap<Name, Sub>,
+    marks: &[bool],
+    cell: &Sub,
+) -> Result<Option<Skip>, AllocError>
+    requires keyed { keys subs.now ≡ names_of (values subs.now) }
+    ensures skip { IfOk result (λ skip. option_map skip_value skip ≡ uses_else (own_skip_of cell.now) (marked_callee marks.now (values subs.now) cell.now.cards)) }
+{
+    if let Some(skip) = own_skip(alloc, cell)? {
+        return Ok(Some(skip));
+    }
+    match first_marked(marks, subs, cell.cards()) {
+        Some(name) => Ok(Some(Skip::Uses(Name::of(alloc, name.as_bytes())?))),
+        None => Ok(None),
     }
 }
