@@ -34,7 +34,7 @@ known m [] ks = or_none (is_in m ks)
 known m (n ∷ ns) ks =
     known m ns (cond (is_in n ks) ks (ks ++ n ∷ [])) ∙ added_by (is_in n ks) m n ks (is_in m ns) refl
 
-find_same : (p q : List ℕ → Bool) (names : List (List ℕ)) → ((n : List ℕ) → p n ≡ q n) → find p names ≡ find q names
+pub find_same : (p q : List ℕ → Bool) (names : List (List ℕ)) → ((n : List ℕ) → p n ≡ q n) → find p names ≡ find q names
 find_same p q [] h = refl
 find_same p q (n ∷ names) h = ap (λ b. cond b (Some n) (find p names)) (h n) ∙ ap (λ o. cond (q n) (Some n) o) (find_same p q names h)
 

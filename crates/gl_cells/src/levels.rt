@@ -31,11 +31,7 @@ fn level_over(levels: &[u32], places: &[usize]) -> u32
 }
 
 /// The level of each cell through one call more than these levels have.
-fn deeper_levels(
-    alloc: Global,
-    cells: &[Outline],
-    levels: &[u32],
-) -> Result<Vec<u32>, AllocError>
+fn deeper_levels(alloc: Global, cells: &[Outline], levels: &[u32]) -> Result<Vec<u32>, AllocError>
     requires low { (place : ℕ) → slice_index levels.now place ≤ CELLS }
     ensures levels { IfOk result (λ v. v.items ≡ map (outlines.level_by levels.now) cells.now) }
 {

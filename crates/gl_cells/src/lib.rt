@@ -1,6 +1,8 @@
 //! Libraries of cells: what a library is, which refusals it has, the levels of its cells and which are skipped, as definitions and laws.
 #![tactic(auto)]
 
+mod cells;
+mod clashes;
 mod fault;
 mod laws;
 mod levels;
@@ -8,6 +10,7 @@ mod library;
 mod limits;
 mod outline;
 mod ports;
+mod read;
 mod skip;
 mod skips;
 

@@ -42,7 +42,10 @@ fn is_skipped(marks: &[bool], cell: &Outline) -> bool
 fn deeper_marks(alloc: Global, cells: &[Outline], marks: &[bool]) -> Result<Vec<bool>, AllocError>
     ensures marks { IfOk result (λ v. v.items ≡ map (outlines.skipped_by marks.now) cells.now) }
 {
-    cells.iter().map(|cell| is_skipped(marks, cell)).collect(alloc)
+    cells
+        .iter()
+        .map(|cell| is_skipped(marks, cell))
+        .collect(alloc)
 }
 
 /// For each cell whether it is skipped. It takes as many steps as there are X cards, for each cell.
@@ -69,11 +72,7 @@ fn is_name_marked(marks: &[bool], subs: &IndexMap<Name, Sub>, name: &Name) -> bo
 }
 
 /// The name of the cell that a card calls, where that is skipped.
-fn marked_call<'a>(
-    marks: &[bool],
-    subs: &IndexMap<Name, Sub>,
-    card: &'a Body,
-) -> Option<&'a Name>
+fn marked_call<'a>(marks: &[bool], subs: &IndexMap<Name, Sub>, card: &'a Body) -> Option<&'a Name>
     requires keyed { keys subs.now ≡ names_of (values subs.now) }
     ensures first { option_copied result ≡ marked_callee marks.now (values subs.now) (bodies_value (card.now ∷ [])) }
 {
