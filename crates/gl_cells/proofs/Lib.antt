@@ -1,1 +1,5 @@
+mod NameLaws
+mod PlacedLaws
 mod RankLaws
+mod SaidLaws
+mod SizeLaws

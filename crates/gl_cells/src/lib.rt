@@ -1,10 +1,18 @@
 //! Libraries of cells: what a library is, which refusals it has, the levels of its cells and which are skipped, as definitions and laws.
 #![tactic(auto)]
 
+mod cells;
+mod clashes;
 mod fault;
 mod laws;
+mod levels;
 mod library;
+mod limits;
+mod outline;
+mod ports;
+mod read;
 mod skip;
+mod skips;
 
 pub use fault::{LibFault, Limit};
 pub use gl_deck::{Body, Deck, DeckFault, Name, Sub};

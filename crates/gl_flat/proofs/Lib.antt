@@ -5,6 +5,7 @@ pub mod ExpandLaws
 pub mod LengthLaws
 pub mod LongLaws
 pub mod NumberLaws
+pub mod NumberedTexts
 pub mod PrintingLaws
 pub mod SceneLaws
 pub mod SeenLaws

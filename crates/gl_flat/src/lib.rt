@@ -9,6 +9,7 @@ mod expand;
 mod fault;
 mod flat;
 mod flattening;
+mod laws;
 mod length;
 mod long;
 mod named;
@@ -32,3 +33,4 @@ pub use flattening::flatten;
 pub use gl_deck::{
     Body, CallCard, Deck, DevCard, Head, Letter, Memory, ModelCard, Name, Sub, Tail,
 };
+pub use laws::numbered_texts_are_flat_texts;

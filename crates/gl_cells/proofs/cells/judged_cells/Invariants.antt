@@ -1,0 +1,11 @@
+use Rattle.std.proofs.Common.{◌≡◌, ◌++◌, drop, map}
+use Rattle.indexmap.specs.IndexMap.{values}
+use Rattle.gl_base.specs.Libraries.{cell_of}
+use Rattle.gl_cells.specs.Limited.{limits_cause}
+use Rattle.gl_cells.proofs.cells.judged_cells.Given as goal
+
+abbrev pub invariant-loop-place : goal.invariant-loop-place
+invariant-loop-place l = record {
+  said : l.judged.items ++ map (cell_of (values l.subs)) (drop l.place (values l.subs)) ≡ map (cell_of (values l.subs)) (values l.subs);
+  fits : limits_cause (values l.subs) (drop l.place (values l.subs)) ≡ limits_cause (values l.subs) (values l.subs);
+}

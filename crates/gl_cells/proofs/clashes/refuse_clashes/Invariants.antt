@@ -1,0 +1,7 @@
+use Rattle.std.proofs.Common.{◌≡◌, drop}
+use Rattle.indexmap.specs.IndexMap.{values}
+use Rattle.gl_cells.specs.Limited.{clashes_cause}
+use Rattle.gl_cells.proofs.clashes.refuse_clashes.Given as goal
+
+abbrev pub invariant-loop-cell : goal.invariant-loop-cell
+invariant-loop-cell l = clashes_cause l.rails (values l.subs) (drop l.cell-index (values l.subs)) ≡ clashes_cause l.rails (values l.subs) (values l.subs)

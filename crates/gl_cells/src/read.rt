@@ -1,0 +1,43 @@
+ghost use Rattle.std.specs.Prelude.{◌≡◌, ◌≤◌, None, length, map, IfErr, IfOk, OnOk};
+ghost use Rattle.gl_text.specs.LogicalLines.{FILE};
+ghost use Rattle.gl_printed.specs.ReadDecks.{IsReadDeck};
+ghost use Rattle.gl_base.specs.Libraries.{cell_of, library_cause, read_library};
+ghost use Rattle.gl_cells.specs.Causes.{cause_of, Gives, IsFoundCause};
+ghost use Rattle.gl_cells.specs.Limited.{AreCountable};
+
+use crate::cells::{cells_within_limits, refuse_cells, refuse_top};
+use crate::clashes::refuse_clashes;
+use crate::{Deck, LibCell, LibFault, Library};
+use gl_known::read_decks_are_known;
+use gl_printed::read_decks_are_fine;
+use std::alloc::Global;
+
+/// What is said of each cell of a deck that is a library.
+fn judged(alloc: Global, deck: &Deck) -> Result<Vec<LibCell>, LibFault>
+    requires read { IsReadDeck deck.now }
+    requires few { AreCountable deck.now.subs }
+    ensures accepted { OnOk result (library_cause deck.now ≡ None) }
+    ensures cells { IfOk result (λ v. v.items ≡ map (cell_of deck.now.subs) deck.now.subs) }
+    ensures refused { IfErr result (λ fault. IsFoundCause (cause_of fault) (library_cause deck.now)) }
+{
+    let subs = deck.subs();
+    refuse_top(deck.top())?;
+    refuse_cells(alloc, subs.values().as_slice())?;
+    let cells = cells_within_limits(alloc, subs)?;
+    refuse_clashes(alloc, subs, deck.globals())?;
+    Ok(cells)
+}
+
+impl Library {
+    /// The library of a file without a title, or the first of its refusals.
+    pub fn read(alloc: Global, bytes: &[u8]) -> Result<Library, LibFault>
+        requires size { length bytes.now ≤ FILE }
+        ensures reads { Gives result (read_library bytes.now) }
+    {
+        read_decks_are_fine();
+        read_decks_are_known();
+        let deck = Deck::read(alloc, bytes, false)?;
+        let cells = judged(alloc, &deck)?;
+        Ok(Library { deck, cells })
+    }
+}
