@@ -44,7 +44,7 @@ paths_exact (x ∷ xs) (y ∷ ys) e =
     let h = both_true (same_text x y) (same_path xs ys) e in
     ap (λ z. z ∷ xs) (exact x y h.0) ∙ ap (λ zs. y ∷ zs) (paths_exact xs ys h.1)
 
-nets_exact : (m n : Net) → same_net m n ≡ true → m ≡ n
+pub nets_exact : (m n : Net) → same_net m n ≡ true → m ≡ n
 nets_exact m n e =
     let h = both_true (same_path m.path n.path) (same_text m.name n.name) e in
     ap (λ p. record m { path = p }) (paths_exact m.path n.path h.0) ∙ ap (λ x. record n { name = x }) (exact m.name n.name h.1)

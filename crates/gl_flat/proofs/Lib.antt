@@ -1,11 +1,14 @@
 pub mod BoundLaws
 pub mod ChosenLaws
 pub mod ClashLaws
+pub mod CountLaws
 pub mod ExpandLaws
+pub mod GivenFlats
 pub mod LengthLaws
 pub mod LongLaws
 pub mod NumberLaws
 pub mod NumberedTexts
+pub mod OneNet
 pub mod PrintingLaws
 pub mod SceneLaws
 pub mod SeenLaws

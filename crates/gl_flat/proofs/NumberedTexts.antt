@@ -7,7 +7,7 @@ use Rattle.gl_text.specs.Cards.{dev, ended}
 use Rattle.gl_text.specs.Decks.{line_of, once}
 use Rattle.gl_text.specs.Flattening.{Net, FlatDevice, Flat, net_name, device_name, around, flat_text}
 use Rattle.gl_deck.proofs.CallLaws.{exact, itself}
-use Rattle.gl_deck.proofs.Members.{In, in_map, in_flat, in_filter}
+use Rattle.gl_deck.proofs.Members.{In, in_map, in_flat, in_filter, from_flat}
 use Rattle.gl_flat.specs.Lengths.{flat_line}
 use Rattle.gl_flat.specs.Numbered.{nets_of, number_in, numbered_device, numbered, name_at, global_line, model_line, passed_line, device_line, numbered_text}
 
@@ -65,6 +65,10 @@ nets_there : (ds : List FlatDevice) (d : FlatDevice) → In d ds → Numbers (ne
 nets_there ds d i n j =
     let names : FlatDevice → List (List ℕ) = λ e. map net_name e.nets in
     in_once (net_name n) (flat_map names ds) (in_flat names (net_name n) d ds i (in_map net_name n d.nets j))
+
+-- the number of a device's net leads back to its name
+pub name_back : (ds : List FlatDevice) (n : Net) → In n (flat_map (λ (d : FlatDevice). d.nets) ds) → name_at (nets_of ds) (number_in (nets_of ds) (net_name n)) ≡ net_name n
+name_back ds n i = let a = from_flat (λ (d : FlatDevice). d.nets) n ds i in back (nets_of ds) (net_name n) (nets_there ds a.0 a.1 n a.2)
 
 text_with : Flat → List ℕ → List ℕ
 text_with f lines = f.title ++ 10 ∷ flat_map global_line f.rails ++ flat_map model_line f.models ++ around f.top lines ++ flat_map passed_line f.passed ++ line_of ended

@@ -1,3 +1,4 @@
+pub mod FlatNets
 pub mod Lengths
 pub mod LongNames
 pub mod Numbered

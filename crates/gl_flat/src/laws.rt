@@ -1,9 +1,29 @@
 //! Laws over the definitions: each function does nothing.
-ghost use Rattle.std.specs.Prelude.{◌≡◌};
-ghost use Rattle.gl_text.specs.Flattening.{Flat, flat_text};
-ghost use Rattle.gl_flat.specs.Numbered.{numbered, numbered_text};
+ghost use Rattle.std.specs.Prelude.{◌≡◌, ◌≤◌, ℕ, List, Contains, Ok, Option, length, map};
+ghost use Rattle.gl_text.specs.Decks.{Deck};
+ghost use Rattle.gl_text.specs.Flattening.{Flat, Net, device_name, flat_text, flatten, net_name};
+ghost use Rattle.gl_printed.specs.ReadDecks.{AllDiffer};
+ghost use Rattle.gl_flat.specs.FlatNets.{all_nets, device_nets};
+ghost use Rattle.gl_flat.specs.Numbered.{nets_of, number_in, numbered, numbered_text};
 
 /// The printed text of a flat deck with its nets numbered is the text of the flat deck.
 pub fn numbered_texts_are_flat_texts()
     ensures same { (f : Flat) → numbered_text (numbered f) ≡ flat_text f }
+{}
+
+/// A flat deck has at most 200,000 devices.
+pub fn flat_decks_are_bounded()
+    ensures bounded { (deck : Deck) (rails : List (List ℕ)) (top : Option (List ℕ)) (flat : Flat)
+        → flatten deck rails top ≡ Ok flat → length flat.devices ≤ 200000 }
+{}
+
+/// In a flat deck no two devices have one flat name, and no two nets have one flat name or one number.
+pub fn flat_names_are_one_to_one()
+    ensures devices { (deck : Deck) (rails : List (List ℕ)) (top : Option (List ℕ)) (flat : Flat)
+        → flatten deck rails top ≡ Ok flat → AllDiffer (map device_name flat.devices) }
+    ensures nets { (deck : Deck) (rails : List (List ℕ)) (top : Option (List ℕ)) (flat : Flat) (m n : Net)
+        → flatten deck rails top ≡ Ok flat → Contains (all_nets flat) m → Contains (all_nets flat) n → net_name m ≡ net_name n → m ≡ n }
+    ensures numbers { (deck : Deck) (rails : List (List ℕ)) (top : Option (List ℕ)) (flat : Flat) (m n : Net)
+        → flatten deck rails top ≡ Ok flat → Contains (device_nets flat) m → Contains (device_nets flat) n
+        → number_in (nets_of flat.devices) (net_name m) ≡ number_in (nets_of flat.devices) (net_name n) → m ≡ n }
 {}

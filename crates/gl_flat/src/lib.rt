@@ -33,4 +33,4 @@ pub use flattening::flatten;
 pub use gl_deck::{
     Body, CallCard, Deck, DevCard, Head, Letter, Memory, ModelCard, Name, Sub, Tail,
 };
-pub use laws::numbered_texts_are_flat_texts;
+pub use laws::{flat_decks_are_bounded, flat_names_are_one_to_one, numbered_texts_are_flat_texts};

@@ -1,7 +1,7 @@
 ghost use Rattle.std.specs.Prelude.{IfOk};
 ghost use Rattle.gl_printed.specs.ReadDecks.{IsReadDeck};
 
-use crate::{Deck, Flat, FlatFault, Name, What, flatten};
+use crate::{Deck, Flat, FlatFault, Name, What, first_clash, flatten};
 use gl_printed::read_decks_are_fine;
 use std::alloc::{AllocError, Global};
 use std::test::Fail;
@@ -175,6 +175,70 @@ fn flat_texts(rt: HostRuntime) -> Result<(), Fail> {
         let (bytes, top, wanted) = row;
         let text = answer(rt.alloc(), bytes, top)?;
         assert!(rt; text.as_slice() == *wanted);
+    }
+    Ok(())
+}
+
+/// The first name that clashes in a cell of a deck; nothing where none does.
+fn cell_clash(alloc: Global, bytes: &[u8], cell: &[u8]) -> Result<Option<Name>, Fail> {
+    let deck = read(alloc, bytes)?;
+    let name = Name::of(alloc, cell)?;
+    let Some(cell) = deck.subs().get(&name) else {
+        return Err(Fail::new("unexpected"));
+    };
+    Ok(first_clash(alloc, deck.subs(), deck.globals(), cell)?)
+}
+
+/// Decks, a cell of each, and the first name that clashes in it, or nothing.
+const CELLS: [Row; 7] = [
+    // a net of the cell's own
+    (
+        b"t\n.subckt s a\nr1 a n 1\nr2 n 0 1\n.ends\n.subckt k p\nx1 p s\nr1 x1.n p 1\n.ends\n",
+        b"k",
+        b"x1.n",
+    ),
+    // the cell that it calls
+    (
+        b"t\n.subckt s a\nr1 a n 1\nr2 n 0 1\n.ends\n.subckt k p\nx1 p s\nr1 x1.n p 1\n.ends\n",
+        b"s",
+        b"",
+    ),
+    // a rail
+    (
+        b"t\n.global x1.n\n.subckt k p\nx1 p s\n.ends\n.subckt s a\nr1 a n 1\nr2 n 0 1\n.ends\n",
+        b"k",
+        b"x1.n",
+    ),
+    // a port of the cell
+    (
+        b"t\n.subckt s a\nr1 a n 1\nr2 n 0 1\n.ends\n.subckt k p x1.n\nx1 p s\nr1 x1.n p 1\n.ends\n",
+        b"k",
+        b"x1.n",
+    ),
+    // two devices
+    (
+        b"t\n.subckt s a\nr1 a 0 1\n.ends\n.subckt k p\nx1 p s\nr.x1.r1 p 0 1\n.ends\n",
+        b"k",
+        b"r.x1.r1",
+    ),
+    // a cell twice, and a clash outside the cell
+    (
+        b"t\n.subckt s a\nr1 a n 1\nr2 n 0 1\n.ends\n.subckt k p\nx1 p s\nx2 p s\n.ends\n.subckt o p\nx1 p s\nr1 x1.n p 1\n.ends\n",
+        b"k",
+        b"",
+    ),
+    // a cell without cards
+    (b"t\n.subckt s a\n.ends\n", b"s", b""),
+];
+
+#[test]
+fn cell_clashes(rt: HostRuntime) -> Result<(), Fail> {
+    for row in &CELLS {
+        let (bytes, cell, wanted) = row;
+        match cell_clash(rt.alloc(), bytes, cell)? {
+            Some(name) => assert!(rt; name.as_bytes() == *wanted),
+            None => assert!(rt; wanted.is_empty()),
+        }
     }
     Ok(())
 }
