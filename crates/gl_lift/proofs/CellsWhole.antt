@@ -10,7 +10,7 @@ use Rattle.gl_base.specs.Libraries.{Skip, empty, loose, uses, Cell, cell_of, ski
 use Rattle.gl_base.specs.Rounds.{is_searched}
 use Rattle.gl_printed.proofs.Each.{each_both, each_filter, each_map, each_passes}
 use Rattle.gl_known.specs.Known.{IsKnownSub}
-use Rattle.gl_lift.specs.Sources.{IsWhole}
+use Rattle.gl_lib.specs.Sources.{IsWhole}
 
 -- ---- no X card
 

@@ -3,5 +3,5 @@ pub mod FlatNets
 pub mod Sound
 pub mod CellsWhole
 pub mod ReadFiles
-pub mod RailLaws
-pub mod InsertLaws
+pub mod Numbers
+pub mod Named

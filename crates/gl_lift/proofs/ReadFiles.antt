@@ -11,7 +11,7 @@ use Rattle.gl_printed.proofs.ReadDeckLaws.{read_fine}
 use Rattle.gl_known.specs.Known.{body_size, sub_size, deck_size, IsKnownDeck}
 use Rattle.gl_known.proofs.Totals.{total, total_is}
 use Rattle.gl_known.proofs.DecksRead.{deck_read}
-use Rattle.gl_lift.specs.Sources.{cells_in}
+use Rattle.gl_lib.specs.Sources.{cells_in}
 use Rattle.gl_lift.specs.Liftable.{IsLiftable, IsSearchable}
 use Rattle.gl_lift.proofs.CellsWhole.{cells_whole, without_calls as none_called}
 

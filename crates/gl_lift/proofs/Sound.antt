@@ -13,8 +13,8 @@ use Rattle.gl_base.specs.Lifting.{flat_deck}
 use Rattle.gl_base.proofs.TextLaws.{rails_are}
 use Rattle.gl_flat.specs.Numbered.{numbered}
 use Rattle.gl_known.proofs.FlatSizes.{flat_known}
-use Rattle.gl_lift.specs.Sources.{AreSound, source_in, cards_in, cells_in}
-use Rattle.gl_lift.proofs.RailLaws.{rails_few, rails_fine}
+use Rattle.gl_lib.specs.Sources.{AreSound, source_in, cards_in, cells_in}
+use Rattle.gl_lib.proofs.RailLaws.{rails_few, rails_fine}
 use Rattle.gl_lift.specs.FlatParts.{IsFlatOf}
 use Rattle.gl_lift.specs.Liftable.{IsLiftable, IsSearchable}
 use Rattle.gl_lift.proofs.FlatParts.{flat_parts}

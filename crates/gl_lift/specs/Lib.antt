@@ -1,3 +1,3 @@
 pub mod FlatParts
 pub mod Liftable
-pub mod Sources
+pub mod Reported

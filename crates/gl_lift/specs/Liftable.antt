@@ -8,7 +8,7 @@ use Rattle.gl_base.specs.Libraries.{Library}
 use Rattle.gl_base.specs.Rounds.{cells_at, searched}
 use Rattle.gl_printed.specs.ReadCards.{IsFine}
 use Rattle.gl_printed.specs.ReadDecks.{IsReadDeck}
-use Rattle.gl_lift.specs.Sources.{IsWhole, cells_in}
+use Rattle.gl_lib.specs.Sources.{IsWhole, cells_in}
 
 -- a deck as it is read, with no more globals than a file has bytes
 pub record IsLiftable (deck : Deck) : Type 0 where
