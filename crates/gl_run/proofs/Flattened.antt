@@ -6,17 +6,16 @@ use Rattle.gl_desk.specs.declared.slot.Slot.TheVariants.{Deck as DeckSlot}
 use Rattle.gl_text.specs.LogicalLines.{Fault}
 use Rattle.gl_text.specs.Decks.{◌>>=◌, Deck, read_deck}
 use Rattle.gl_text.specs.Flattening.{Flat, flatten, flat_text, flat_job}
-use Rattle.gl_deck.specs.Refusals as reading
 use Rattle.gl_flat.specs.Numbered.{Numbered, numbered, numbered_text}
 use Rattle.gl_flat.specs.Refusals.{IsRefusal}
-use Rattle.gl_taken.specs.Causes.{cause_of}
 use Rattle.gl_run.specs.declared.ending.Ending.{Ending}
 use Rattle.gl_run.specs.declared.ending.Ending.TheVariants as endings
-use Rattle.gl_run.specs.Reading.{Seen, IsWhole, Unread}
-use Rattle.gl_run.specs.FlatRefusals.{flat_fault}
-use Rattle.gl_run.specs.FlatEndings.{IsFlatText, IsFlatFault, IsFlatCause, IsFlatMade, Unflat}
-use Rattle.gl_run.specs.FlatInputs.{HasReadDeck, Tells, text_of_deck}
-use Rattle.gl_run.proofs.Told.{told_as}
+use Rattle.gl_run.specs.Reading.{Seen, Unread}
+use Rattle.gl_run.specs.Refusals.{read_fault, flat_fault}
+use Rattle.gl_run.specs.Lift.{IsDeck}
+use Rattle.gl_run.specs.Inputs.{HasRead, NoDeck}
+use Rattle.gl_run.specs.FlatEndings.{IsFlatText, IsFlatFault, IsFlatMade, Unflat}
+use Rattle.gl_run.specs.FlatInputs.{Tells, text_of_deck}
 
 -- ---- of bytes
 
@@ -44,42 +43,39 @@ told_then : {X : Type 0} (o : Option X) (P R : X → Type 0) → ((x : X) → P 
 told_then None P R step p = tt
 told_then (Some x) P R step p = step x p
 
--- the deck that was read, of what is told
-pub has_read : (s : Seen) (bytes : List ℕ) (deck : Deck) → IsWhole s bytes → read_deck true bytes ≡ Ok deck
-    → IfSome s.held (λ b. length b ≤ 67108864) × IfSome s.held (λ b. read_deck true b ≡ Ok deck)
-has_read s bytes deck whole e = (told_as s.held bytes (λ b. length b ≤ 67108864) whole.same_bytes whole.few, told_as s.held bytes (λ b. read_deck true b ≡ Ok deck) whole.same_bytes e)
-
 -- the flat text of the deck that was read
-pub made_of : (s : Seen) (deck : Deck) (text : List ℕ) → HasReadDeck s deck → text_of_deck deck ≡ Ok text → IsFlatMade s text
+pub made_of : (s : Seen) (deck : Deck) (text : List ℕ) → HasRead s deck → text_of_deck deck ≡ Ok text → IsFlatMade s text
 made_of s deck text h e = record {
   deck_read = h.end;
-  made = both_told s.held (λ b. length b ≤ 67108864) (λ b. read_deck true b ≡ Ok deck) (λ b. IsFlatText b text) (λ b few is. record { few = few; text_is = job_of_deck b (Ok deck) is ∙ e }) h.few h.deck_is;
+  made = both_told s.held IsDeck (λ b. read_deck true b ≡ Ok deck) (λ b. IsFlatText b text) (λ b d is. record { few = d.few; text_is = job_of_deck b (Ok deck) is ∙ e }) h.accepted h.deck_is;
 }
 
 -- an ending that tells a refusal of what is told
 told_refusal : (e : Ending) (given : Option Fault) (s : Seen) → ((fault : Fault) → given ≡ Some fault → IfSome s.held (λ d. IsFlatFault d fault)) → Tells e given → Unflat e s
 told_refusal (endings.DeckRefused refusal) (Some fault) s h t =
-    told_then s.held (λ d. IsFlatFault d fault) (λ d. IsFlatCause d (cause_of refusal)) (λ d p. subst (IsFlatCause d) (sym t) p) (h fault refl)
+    told_then s.held (λ d. IsFlatFault d fault) (λ d. IsFlatFault d (read_fault refusal)) (λ d p. subst (IsFlatFault d) (sym t) p) (h fault refl)
 told_refusal (endings.FlatRefused refusal) (Some fault) s h t =
     told_then s.held (λ d. IsFlatFault d fault) (λ d. IsFlatFault d (flat_fault refusal)) (λ d p. subst (IsFlatFault d) (sym t) p) (h fault refl)
 told_refusal endings.Memory given s h t = tt
 told_refusal e given s h t = absurd t
 
--- a refusal of reading
-pub unread_of : (e : Ending) (given : Option Fault) (s : Seen) (bytes : List ℕ) → IsWhole s bytes → reading.IsRefusal given (read_deck true bytes) → Tells e given → Unflat e s
-unread_of e given s bytes whole h t = told_refusal e given s (λ fault is.
-    let refused : read_deck true bytes ≡ Err fault = subst (λ (g : Option Fault). reading.IsRefusal g (read_deck true bytes)) is h in
-    told_as s.held bytes (λ d. IsFlatFault d fault) whole.same_bytes (record { few = whole.few; fault_is = job_of_deck bytes (Err fault) refused })) t
-
 -- a refusal of flattening
-pub unflat_of : (e : Ending) (given : Option Fault) (s : Seen) (deck : Deck) → HasReadDeck s deck → IsRefusal given (text_of_deck deck) → Tells e given → Unflat e s
+pub unflat_of : (e : Ending) (given : Option Fault) (s : Seen) (deck : Deck) → HasRead s deck → IsRefusal given (text_of_deck deck) → Tells e given → Unflat e s
 unflat_of e given s deck read h t = told_refusal e given s (λ fault given-is.
     let refused : text_of_deck deck ≡ Err fault = subst (λ (g : Option Fault). IsRefusal g (text_of_deck deck)) given-is h in
-    both_told s.held (λ b. length b ≤ 67108864) (λ b. read_deck true b ≡ Ok deck) (λ b. IsFlatFault b fault) (λ b few is. record { few = few; fault_is = job_of_deck b (Ok deck) is ∙ refused }) read.few read.deck_is) t
+    both_told s.held IsDeck (λ b. read_deck true b ≡ Ok deck) (λ b. IsFlatFault b fault) (λ b d is. record { few = d.few; fault_is = job_of_deck b (Ok deck) is ∙ refused }) read.accepted read.deck_is) t
 
--- why the slot could not be read
-pub unflat_as_unread : (e : Ending) (s : Seen) → Unread e DeckSlot s → Unflat e s
+-- why there is no deck
+unflat_as_unread : (e : Ending) (s : Seen) → Unread e DeckSlot s → Unflat e s
 unflat_as_unread (endings.Read at) s h = subst (λ (slot : Slot). Unflat (endings.Read slot) s) (sym h.0) h.1
 unflat_as_unread (endings.LongFile at) s h = subst (λ (slot : Slot). Unflat (endings.LongFile slot) s) (sym h.0) h.1
 unflat_as_unread endings.Memory s h = tt
 unflat_as_unread e s h = absurd h
+
+pub unflat_as_none : (e : Ending) (s : Seen) → NoDeck e s → Unflat e s
+unflat_as_none (endings.DeckRefused refusal) s h = told_then s.held (λ b. (length b ≤ 67108864) × (read_deck true b ≡ Err (read_fault refusal))) (λ b. IsFlatFault b (read_fault refusal))
+    (λ b p. record { few = p.0; fault_is = job_of_deck b (Err (read_fault refusal)) p.1 }) h
+unflat_as_none (endings.Read at) s h = unflat_as_unread (endings.Read at) s h
+unflat_as_none (endings.LongFile at) s h = unflat_as_unread (endings.LongFile at) s h
+unflat_as_none endings.Memory s h = tt
+unflat_as_none e s h = absurd h

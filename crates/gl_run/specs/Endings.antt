@@ -1,12 +1,13 @@
 -- What each ending of the job `lift` means: of what the inputs held, and of what the output was given.
-use Rattle.std.specs.Prelude.{◌≡◌, ◌≢◌, ℕ, ◌≤◌, length, List, [], take, Err, IfSome}
+use Rattle.std.specs.Prelude.{◌≡◌, ℕ, ◌≤◌, length, List, [], take, true, Err, IfSome}
 use Rattle.gl_desk.specs.declared.slot.Slot.TheVariants.{Deck, Library, Report}
-use Rattle.gl_text.specs.OneCell.{device_deck, cell_library}
-use Rattle.gl_taken.specs.Causes.{cause_of}
+use Rattle.gl_text.specs.Decks.{read_deck}
+use Rattle.gl_base.specs.Lifting.{taken_library}
 use Rattle.gl_run.specs.declared.ending.Ending.{Ending}
 use Rattle.gl_run.specs.declared.ending.Ending.TheVariants as endings
 use Rattle.gl_run.specs.Reading.{Seen, HasCause, IsLong}
-use Rattle.gl_run.specs.Lift.{IsReportOfBytes, IsDeck, IsLibrary}
+use Rattle.gl_run.specs.Refusals.{read_fault, flat_fault, library_cause}
+use Rattle.gl_run.specs.Lift.{IsReportOfBytes, IsDeck, IsLibrary, HasFlatFault}
 
 -- both inputs were read to their ends, and the text is the report of what they held
 pub record IsMade (deck library : Seen) (text : List ℕ) : Type 0 where
@@ -36,10 +37,11 @@ pub record IsUnwritten (deck library report : Seen) : Type 0 where
 abbrev pub Unmade : Ending → Seen → Seen → Type 0
 Unmade (endings.Read Deck) deck library = HasCause deck
 Unmade (endings.LongFile Deck) deck library = IsLong deck
-Unmade (endings.DeckRefused refusal) deck library = IfSome deck.held (λ d. (length d ≤ 67108864) × (device_deck d ≡ Err (cause_of refusal)))
+Unmade (endings.DeckRefused refusal) deck library = IfSome deck.held (λ d. (length d ≤ 67108864) × (read_deck true d ≡ Err (read_fault refusal)))
 Unmade (endings.Read Library) deck library = HasCause library × IfSome deck.held IsDeck
 Unmade (endings.LongFile Library) deck library = IsLong library × IfSome deck.held IsDeck
-Unmade (endings.LibraryRefused refusal) deck library = IfSome deck.held IsDeck × IfSome library.held (λ l. (length l ≤ 67108864) × (cell_library l ≡ Err (cause_of refusal)))
+Unmade (endings.LibraryRefused refusal) deck library = IfSome deck.held IsDeck × IfSome library.held (λ l. (length l ≤ 67108864) × (taken_library l ≡ Err (library_cause refusal)))
+Unmade (endings.FlatRefused refusal) deck library = IfSome deck.held IsDeck × IfSome library.held IsLibrary × IfSome deck.held (λ d. IfSome library.held (λ l. HasFlatFault d l (flat_fault refusal)))
 Unmade endings.Memory deck library = Unit {0}
 Unmade _ deck library = ⊥
 

@@ -3,11 +3,9 @@ use Rattle.std.specs.Prelude.{◌≡◌, ℕ, ◌<◌, ◌≤◌, length, List, 
 use Rattle.gl_desk.specs.declared.slot.Slot.TheVariants.{Deck, Out}
 use Rattle.gl_text.specs.LogicalLines.{Fault}
 use Rattle.gl_text.specs.Flattening.{flat_job}
-use Rattle.gl_text.specs.OneCell.{Cause, refused, not_yet}
-use Rattle.gl_taken.specs.Causes.{cause_of}
 use Rattle.gl_run.specs.declared.ending.Ending.{Ending}
 use Rattle.gl_run.specs.declared.ending.Ending.TheVariants as endings
-use Rattle.gl_run.specs.FlatRefusals.{flat_fault}
+use Rattle.gl_run.specs.Refusals.{read_fault, flat_fault}
 use Rattle.gl_run.specs.Reading.{Seen, HasCause, IsLong}
 use Rattle.gl_run.specs.Completeness.{IsSound, IsStatus}
 
@@ -24,11 +22,6 @@ HasFlatText bytes = (text : List ℕ) × IsFlatText bytes text
 pub record IsFlatFault (bytes : List ℕ) (fault : Fault) : Type 0 where
   pub few : length bytes ≤ 67108864
   pub fault_is : flat_job None bytes ≡ Err fault
-
--- the same of a cause that is a refusal
-abbrev pub IsFlatCause : List ℕ → Cause → Type 0
-IsFlatCause bytes (refused fault) = IsFlatFault bytes fault
-IsFlatCause bytes (not_yet line) = ⊥
 
 -- the deck was read to its end, and this is the flat text of what it held
 pub record IsFlatMade (deck : Seen) (text : List ℕ) : Type 0 where
@@ -51,7 +44,7 @@ pub record IsFlatUnwritten (deck out : Seen) : Type 0 where
 abbrev pub Unflat : Ending → Seen → Type 0
 Unflat (endings.Read Deck) deck = HasCause deck
 Unflat (endings.LongFile Deck) deck = IsLong deck
-Unflat (endings.DeckRefused refusal) deck = IfSome deck.held (λ d. IsFlatCause d (cause_of refusal))
+Unflat (endings.DeckRefused refusal) deck = IfSome deck.held (λ d. IsFlatFault d (read_fault refusal))
 Unflat (endings.FlatRefused refusal) deck = IfSome deck.held (λ d. IsFlatFault d (flat_fault refusal))
 Unflat endings.Memory deck = Unit {0}
 Unflat _ deck = ⊥

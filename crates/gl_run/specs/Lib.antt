@@ -2,7 +2,7 @@ pub mod Words
 pub mod Names
 pub mod RefusalTexts
 pub mod Parts
-pub mod FlatRefusals
+pub mod Refusals
 pub mod Messages
 pub mod Saying
 pub mod Reading

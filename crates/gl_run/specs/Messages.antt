@@ -2,9 +2,8 @@
 use Rattle.std.specs.Prelude.{ℕ, List, [], ◌++◌, codes}
 use Rattle.gl_desk.specs.declared.slot.Slot.{Slot}
 use Rattle.gl_desk.specs.declared.slot.Slot.TheVariants.{Deck, Library, Map, Lifted, NewMap, Report, Out, Says}
-use Rattle.gl_taken.specs.Causes.{cause_of}
-use Rattle.gl_run.specs.RefusalTexts.{fault_text, cause_text}
-use Rattle.gl_run.specs.FlatRefusals.{flat_fault}
+use Rattle.gl_run.specs.RefusalTexts.{fault_text, library_text}
+use Rattle.gl_run.specs.Refusals.{read_fault, flat_fault, library_cause}
 use Rattle.gl_run.specs.declared.ending.Ending.{Ending}
 use Rattle.gl_run.specs.declared.ending.Ending.TheVariants as endings
 
@@ -35,9 +34,9 @@ slot_name Says = codes "Says"
 abbrev pub line_of : Ending → List ℕ
 line_of endings.Done = []
 line_of endings.Words = codes "gatelift: 1 words\n"
-line_of (endings.DeckRefused refusal) = codes "gatelift: 2 deck: " ++ cause_text (cause_of refusal) ++ codes "\n"
+line_of (endings.DeckRefused refusal) = codes "gatelift: 2 deck: " ++ fault_text (read_fault refusal) ++ codes "\n"
 line_of (endings.FlatRefused refusal) = codes "gatelift: 2 deck: " ++ fault_text (flat_fault refusal) ++ codes "\n"
-line_of (endings.LibraryRefused refusal) = codes "gatelift: 3 library: " ++ cause_text (cause_of refusal) ++ codes "\n"
+line_of (endings.LibraryRefused refusal) = codes "gatelift: 3 library: " ++ library_text (library_cause refusal) ++ codes "\n"
 line_of (endings.LongFile slot) = codes "gatelift: 6 limit: LongFile slot=" ++ slot_name slot ++ codes " number=67108865\n"
 line_of (endings.Read slot) = codes "gatelift: 7 read: " ++ slot_name slot ++ codes "\n"
 line_of (endings.Write slot) = codes "gatelift: 8 write: " ++ slot_name slot ++ codes "\n"

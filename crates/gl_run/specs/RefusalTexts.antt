@@ -2,7 +2,8 @@
 use Rattle.std.specs.Prelude.{ℕ, List, [], ◌∷◌, ◌++◌, codes, flat_map}
 use Rattle.std.specs.Fmt.{decimal}
 use Rattle.gl_text.specs.LogicalLines.{Fault, loose_plus, long_line, long_name, unknown_card, short_card, control_block, nested_subckt, loose_ends, wrong_ends, open_subckt, local_card, parameters, duplicate_name, duplicate_port, zero_port, long_tail, unknown_subckt, wrong_node_count, recursive, name_clash, long_flat_name, too_many_cards, too_many_devices, too_deep, no_top, top_devices, long_text}
-use Rattle.gl_text.specs.OneCell.{Cause, refused, not_yet}
+use Rattle.gl_base.specs.Libraries as libraries
+use Rattle.gl_base.specs.Lifting.{LibraryCause, refused, not_yet}
 
 -- a field and its value, behind a blank
 abbrev pub field_text : List ℕ × ℕ → List ℕ
@@ -46,7 +47,22 @@ fault_text (no_top name) = codes "24 NoTop name=" ++ name
 fault_text (top_devices line) = at_line (codes "25 TopDevices") line []
 fault_text (long_text number) = with_fields (codes "26 LongText") ((codes "number", number) ∷ [])
 
--- why a file is not taken
-abbrev pub cause_text : Cause → List ℕ
-cause_text (refused fault) = fault_text fault
-cause_text (not_yet line) = at_line (codes "60 NotYet") line []
+-- what there is too much of
+abbrev pub limit_name : libraries.Limit → List ℕ
+limit_name libraries.cells = codes "Cells"
+limit_name libraries.devices = codes "Devices"
+limit_name libraries.ports = codes "Ports"
+limit_name libraries.level = codes "Level"
+limit_name libraries.flat = codes "Flat"
+
+-- a refusal of a library
+abbrev pub cell_text : libraries.Cause → List ℕ
+cell_text (libraries.refused fault) = fault_text fault
+cell_text (libraries.top_card line) = at_line (codes "30 TopCard") line []
+cell_text (libraries.cell_limit cell what number) = codes "31 CellLimit cell=" ++ cell ++ codes " what=" ++ limit_name what ++ field_text (codes "number", number)
+cell_text (libraries.cell_clash cell name) = codes "33 CellClash cell=" ++ cell ++ codes " name=" ++ name
+
+-- why a library is not taken
+abbrev pub library_text : LibraryCause → List ℕ
+library_text (refused cause) = cell_text cause
+library_text (not_yet line) = at_line (codes "60 NotYet") line []

@@ -3,8 +3,9 @@ ghost use Rattle.gl_run.specs.Messages.{status_of};
 ghost use Rattle.gl_run.specs.declared.ending.Ending.{Ending as End};
 
 use crate::flat_refusal::FlatRefusal;
+use crate::library_refusal::LibraryRefusal;
+use crate::read_refusal::Refusal;
 use gl_desk::Slot;
-use gl_taken::Refusal;
 
 /// How a run ends.
 #[derive(Debug, Drop)]
@@ -18,7 +19,7 @@ pub enum Ending {
     /// The deck is refused as it is flattened.
     FlatRefused(FlatRefusal),
     /// The library is refused.
-    LibraryRefused(Refusal),
+    LibraryRefused(LibraryRefusal),
     /// The file at an input is longer than a file may be.
     LongFile {
         /// The input.

@@ -4,60 +4,30 @@ ghost use Rattle.gl_desk.specs.declared.slot.Slot.{Slot as Place};
 ghost use Rattle.gl_desk.specs.Desk.{OthersSame, NamesSame};
 ghost use Rattle.gl_text.specs.Flattening.{flat_text};
 ghost use Rattle.gl_printed.specs.ReadDecks.{IsReadDeck};
-ghost use Rattle.gl_deck.specs.Refusals.{fault_of as reading_fault};
 ghost use Rattle.gl_flat.specs.Refusals.{IsRefusal, fault_of};
 ghost use Rattle.gl_run.specs.Messages.{status_of};
 ghost use Rattle.gl_run.specs.Reading.{seen};
 ghost use Rattle.gl_run.specs.FlatEndings.{Flattens, IsFlatMade, Unflat};
-ghost use Rattle.gl_run.specs.FlatInputs.{HasReadDeck, Tells, text_of_deck};
+ghost use Rattle.gl_run.specs.FlatInputs.{Tells, text_of_deck};
 ghost use Rattle.gl_run.specs.declared.ending.Ending.{Ending as End};
 
 use crate::ending::Ending;
 use crate::flat_refusal::refusal_in;
-use crate::reading::read;
+use crate::inputs::read_deck;
 use crate::words::Flat;
 use crate::writing::write;
-use gl_deck::{Deck, DeckFault};
+use gl_deck::Deck;
 use gl_desk::{Desk, Slot};
 use gl_flat::{FlatFault, flatten, numbered_texts_are_flat_texts};
-use gl_printed::read_decks_are_fine;
-use gl_taken::{TakenFault, told};
 use std::alloc::Global;
 
-/// How a run ends whose deck is refused as it is read.
-fn unread(fault: DeckFault) -> Ending
-    ensures tells { Tells result (reading_fault fault) }
-{
-    match told(fault) {
-        TakenFault::Refused(refusal) => Ending::DeckRefused(refusal),
-        TakenFault::Memory => Ending::Memory,
-    }
-}
-
 /// How a run ends whose deck is refused as it is flattened.
-fn unflattened(fault: FlatFault) -> Ending
+pub fn unflattened(fault: FlatFault) -> Ending
     ensures tells { Tells result (fault_of fault) }
 {
     match refusal_in(fault) {
         Some(refusal) => Ending::FlatRefused(refusal),
         None => Ending::Memory,
-    }
-}
-
-/// Reads the deck by its word.
-fn deck_of<D: Desk>(alloc: Global, desk: &mut D, word: &str) -> Result<Deck, Ending>
-    requires free { (D.shows desk.old Slot.Deck).used ≡ false }
-    ensures deck { IfOk result (λ deck. HasReadDeck (seen D.shows D.held D.wants desk.old desk.new Slot.Deck word.now) deck) }
-    ensures none { IfErr result (λ ending. Unflat ending (seen D.shows D.held D.wants desk.old desk.new Slot.Deck word.now)) }
-    ensures long { (D.shows desk.new Slot.Deck).used ≡ true → (D.shows desk.new Slot.Deck).taken ≡ 67108865 → IsErrOf result (End.LongFile Slot.Deck) ⊎ IsErrOf result End.Memory }
-    ensures others { OthersSame D.shows desk.old desk.new Slot.Deck }
-    ensures names { NamesSame D.held D.wants desk.old desk.new }
-{
-    let bytes = read(alloc, desk, Slot::Deck, word)?;
-    read_decks_are_fine();
-    match Deck::read(alloc, &bytes, true) {
-        Ok(deck) => Ok(deck),
-        Err(fault) => Err(unread(fault)),
     }
 }
 
@@ -83,7 +53,7 @@ fn make_flat<D: Desk>(alloc: Global, desk: &mut D, word: &str) -> Result<Vec<u8>
     ensures others { OthersSame D.shows desk.old desk.new Slot.Deck }
     ensures names { NamesSame D.held D.wants desk.old desk.new }
 {
-    let deck = deck_of(alloc, desk, word)?;
+    let deck = read_deck(alloc, desk, word)?;
     match text_of(alloc, &deck) {
         Ok(text) => Ok(text),
         Err(fault) => Err(unflattened(fault)),

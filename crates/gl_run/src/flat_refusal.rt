@@ -1,7 +1,7 @@
 ghost use Rattle.std.specs.Prelude.{◌≡◌};
 ghost use Rattle.std.specs.Option.{option_map};
 ghost use Rattle.gl_flat.specs.Refusals.{fault_of};
-ghost use Rattle.gl_run.specs.FlatRefusals.{flat_fault};
+ghost use Rattle.gl_run.specs.Refusals.{flat_fault};
 
 use gl_flat::{FlatFault, Name, What};
 

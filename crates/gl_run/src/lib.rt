@@ -6,12 +6,14 @@ mod flat;
 mod flat_refusal;
 mod inputs;
 mod job;
+mod library_refusal;
 mod lift;
 mod making;
+mod read_refusal;
 mod reading;
 mod refusal;
-mod report;
 mod says;
+mod says_library;
 mod words;
 mod writing;
 

@@ -6,14 +6,14 @@ ghost use Rattle.gl_run.specs.Endings.{IsMade, Unmade};
 ghost use Rattle.gl_run.specs.declared.ending.Ending.{Ending as End};
 
 use crate::ending::Ending;
+use crate::flat::unflattened;
 use crate::inputs::{read_deck, read_library};
-use crate::report::report_of;
 use crate::words::Lift;
 use gl_desk::{Desk, Slot};
-use gl_match::Memory;
+use gl_lift::report_of;
 use std::alloc::Global;
 
-/// Reads both inputs, and makes the report.
+/// Reads both inputs, flattens the deck, and makes the report.
 pub fn make<D: Desk>(alloc: Global, desk: &mut D, names: &Lift<'_>) -> Result<Vec<u8>, Ending>
     requires deck { (D.shows desk.old Slot.Deck).used ≡ false }
     requires library { (D.shows desk.old Slot.Library).used ≡ false }
@@ -34,6 +34,6 @@ pub fn make<D: Desk>(alloc: Global, desk: &mut D, names: &Lift<'_>) -> Result<Ve
     let library = read_library(alloc, desk, names.library)?;
     match report_of(alloc, &deck, &library) {
         Ok(text) => Ok(text),
-        Err(Memory) => Err(Ending::Memory),
+        Err(fault) => Err(unflattened(fault)),
     }
 }

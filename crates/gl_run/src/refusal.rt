@@ -1,11 +1,11 @@
 //! The texts of refusals.
 ghost use Rattle.std.specs.Prelude.{◌≡◌, ◌++◌, [], codes};
 ghost use Rattle.std.specs.Fmt.{decimal};
-ghost use Rattle.gl_taken.specs.Causes.{cause_of};
 ghost use Rattle.gl_run.specs.Parts.{text_of};
-ghost use Rattle.gl_run.specs.RefusalTexts.{cause_text};
+ghost use Rattle.gl_run.specs.Refusals.{read_fault};
+ghost use Rattle.gl_run.specs.RefusalTexts.{fault_text};
 
-use gl_taken::Refusal;
+use crate::read_refusal::Refusal;
 
 /// A number behind its key.
 #[derive(Clone, Copy)]
@@ -73,7 +73,7 @@ fn with_two(name: &'static str, line: u32, has: u32, needs: u32) -> RefusalText
 
 /// The parts of a refusal's text.
 pub fn text_of_refusal(refusal: Refusal) -> RefusalText
-    ensures text { text_of result ≡ cause_text (cause_of refusal) }
+    ensures text { text_of result ≡ fault_text (read_fault refusal) }
 {
     match refusal {
         Refusal::LoosePlus { line } => at_line("1 LoosePlus", line),
@@ -110,6 +110,5 @@ pub fn text_of_refusal(refusal: Refusal) -> RefusalText
             needs,
         ),
         Refusal::Recursive { line } => at_line("19 Recursive", line),
-        Refusal::NotYet { line } => at_line("60 NotYet", line),
     }
 }

@@ -1,18 +1,18 @@
 ghost use Rattle.std.specs.Prelude.{◌≡◌, ◌++◌, codes, decimal, true, OnOk, OnErr};
 ghost use Rattle.gl_desk.specs.Desk.{Gives, GivesFront, OthersSame, NamesSame};
 ghost use Rattle.gl_run.specs.Messages.{slot_name};
-ghost use Rattle.gl_taken.specs.Causes.{cause_of};
 ghost use Rattle.gl_run.specs.Parts.{field_part, numbers_of};
-ghost use Rattle.gl_run.specs.RefusalTexts.{fault_text, cause_text};
-ghost use Rattle.gl_run.specs.FlatRefusals.{flat_fault};
+ghost use Rattle.gl_run.specs.RefusalTexts.{fault_text};
+ghost use Rattle.gl_run.specs.Refusals.{read_fault, flat_fault};
 ghost use Rattle.gl_run.specs.Saying.{GivesOrFails, Speaks};
 
 use crate::ending::Ending;
 use crate::flat_refusal::FlatRefusal;
+use crate::read_refusal::Refusal;
 use crate::refusal::{Field, RefusalText, text_of_refusal};
+use crate::says_library::say_library;
 use gl_desk::{Desk, Failed, Slot, write_all};
 use gl_flat::What;
-use gl_taken::Refusal;
 use itoa::Buffer;
 
 /// The name of a slot, as messages have it.
@@ -32,7 +32,7 @@ fn name_of(slot: Slot) -> &'static str
 }
 
 /// Gives three texts, one after another, and stops at the first call that fails.
-fn give_texts<D: Desk>(desk: &mut D, front: &str, middle: &[u8], end: &str) -> Result<(), Failed>
+pub fn give_texts<D: Desk>(desk: &mut D, front: &str, middle: &[u8], end: &str) -> Result<(), Failed>
     requires says { (D.shows desk.old Slot.Says).used ≡ true }
     ensures ok { OnOk result (Gives (D.shows desk.old Slot.Says) (D.shows desk.new Slot.Says) (front.now ++ middle.now ++ end.now)) }
     ensures err { OnErr result (GivesFront (D.shows desk.old Slot.Says) (D.shows desk.new Slot.Says) (front.now ++ middle.now ++ end.now)) }
@@ -46,7 +46,7 @@ fn give_texts<D: Desk>(desk: &mut D, front: &str, middle: &[u8], end: &str) -> R
 }
 
 /// Says three texts, or a front of them up to a call that fails. It takes no memory.
-fn say_texts<D: Desk>(desk: &mut D, front: &str, middle: &[u8], end: &str)
+pub fn say_texts<D: Desk>(desk: &mut D, front: &str, middle: &[u8], end: &str)
     requires says { (D.shows desk.old Slot.Says).used ≡ true }
     ensures given { GivesOrFails (D.shows desk.old Slot.Says) (D.shows desk.new Slot.Says) (front.now ++ middle.now ++ end.now) }
     ensures others { OthersSame D.shows desk.old desk.new Slot.Says }
@@ -72,7 +72,7 @@ fn give_two<D: Desk>(desk: &mut D, first: &str, second: &str) -> Result<(), Fail
 }
 
 /// Gives a number behind its key.
-fn give_number<D: Desk>(desk: &mut D, key: &str, value: u32) -> Result<(), Failed>
+pub fn give_number<D: Desk>(desk: &mut D, key: &str, value: u32) -> Result<(), Failed>
     requires says { (D.shows desk.old Slot.Says).used ≡ true }
     ensures ok { OnOk result (Gives (D.shows desk.old Slot.Says) (D.shows desk.new Slot.Says) (key.now ++ decimal value)) }
     ensures err { OnErr result (GivesFront (D.shows desk.old Slot.Says) (D.shows desk.new Slot.Says) (key.now ++ decimal value)) }
@@ -154,9 +154,9 @@ fn give_line<D: Desk>(desk: &mut D, front: &str, text: RefusalText) -> Result<()
 }
 
 /// Says that a file is refused. It takes no memory.
-fn say_refusal<D: Desk>(desk: &mut D, front: &str, refusal: Refusal)
+pub fn say_refusal<D: Desk>(desk: &mut D, front: &str, refusal: Refusal)
     requires says { (D.shows desk.old Slot.Says).used ≡ true }
-    ensures given { GivesOrFails (D.shows desk.old Slot.Says) (D.shows desk.new Slot.Says) (front.now ++ cause_text (cause_of refusal) ++ codes "\n") }
+    ensures given { GivesOrFails (D.shows desk.old Slot.Says) (D.shows desk.new Slot.Says) (front.now ++ fault_text (read_fault refusal) ++ codes "\n") }
     ensures others { OthersSame D.shows desk.old desk.new Slot.Says }
     ensures names { NamesSame D.held D.wants desk.old desk.new }
 {
@@ -167,7 +167,7 @@ fn say_refusal<D: Desk>(desk: &mut D, front: &str, refusal: Refusal)
 }
 
 /// Says a number between two texts. It takes no memory.
-fn say_number<D: Desk>(desk: &mut D, front: &str, number: u32)
+pub fn say_number<D: Desk>(desk: &mut D, front: &str, number: u32)
     requires says { (D.shows desk.old Slot.Says).used ≡ true }
     ensures given { GivesOrFails (D.shows desk.old Slot.Says) (D.shows desk.new Slot.Says) (front.now ++ decimal number ++ codes "\n") }
     ensures others { OthersSame D.shows desk.old desk.new Slot.Says }
@@ -226,7 +226,7 @@ pub fn say<D: Desk>(desk: &mut D, ending: &Ending)
         Ending::Words => say_texts(desk, "gatelift: 1 words\n", b"", ""),
         Ending::DeckRefused(refusal) => say_refusal(desk, "gatelift: 2 deck: ", *refusal),
         Ending::FlatRefused(refusal) => say_flat(desk, refusal),
-        Ending::LibraryRefused(refusal) => say_refusal(desk, "gatelift: 3 library: ", *refusal),
+        Ending::LibraryRefused(refusal) => say_library(desk, refusal),
         Ending::LongFile { slot } => {
             say_texts(
                 desk,
