@@ -2,3 +2,4 @@ pub mod OnceLaws
 pub mod TextLaws
 pub mod TypeLaws
 pub mod RowLaws
+pub mod StemRowLaws
