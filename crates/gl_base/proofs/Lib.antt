@@ -3,3 +3,5 @@ pub mod TextLaws
 pub mod TypeLaws
 pub mod RowLaws
 pub mod StemRowLaws
+pub mod ListedRowLaws
+pub mod ReportRowLaws

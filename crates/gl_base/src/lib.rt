@@ -11,7 +11,7 @@ pub use laws::{
     rails_differ, same_types_are_equal,
 };
 pub use reading_rows::{
-    circuit_and_pattern_values, computed_stems_are_stems, library_refusals_in_order,
+    circuit_and_pattern_values, computed_reports_are_reports, library_refusals_in_order,
     one_cell_reports, rail_and_port_reports, several_cells_reports, stem_reports, type_reports,
 };
 pub use reports::reports_compute;

@@ -5,4 +5,4 @@ use Rattle.gl_base.proofs.reading_rows.type_reports.Goals as goal
 
 pub returns : goal.returns
 unfolding digits
-returns c = record { model_of_the_deck_first = refl; models_that_nothing_defines = refl; letters_differ = refl }
+returns c = record { model_of_the_deck_first = (refl, refl); models_that_nothing_defines = (refl, refl); letters_differ = (refl, refl) }
