@@ -2,3 +2,6 @@ pub mod OnceLaws
 pub mod TextLaws
 pub mod TypeLaws
 pub mod RowLaws
+pub mod StemRowLaws
+pub mod ListedRowLaws
+pub mod ReportRowLaws

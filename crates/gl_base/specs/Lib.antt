@@ -9,3 +9,4 @@ pub mod Rounds
 pub mod RoundReports
 pub mod Rows
 pub mod Lifting
+pub mod RoundRows

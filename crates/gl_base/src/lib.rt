@@ -2,12 +2,17 @@
 #![tactic(auto)]
 
 mod laws;
+mod reading_rows;
 mod reports;
 mod rounds;
 
 pub use laws::{
     inverter_rows, mixed_rows, names_stand_once, numbers_lead_back, pass_gate_rows, rail_rows,
     rails_differ, same_types_are_equal,
+};
+pub use reading_rows::{
+    circuit_and_pattern_values, computed_reports_are_reports, library_refusals_in_order,
+    one_cell_reports, rail_and_port_reports, several_cells_reports, stem_reports, type_reports,
 };
 pub use reports::reports_compute;
 pub use rounds::round_reports_compute;
