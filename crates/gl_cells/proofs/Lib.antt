@@ -1,3 +1,5 @@
+mod EarliestLaws
+mod KnownLaws
 mod NameLaws
 mod PlacedLaws
 mod RankLaws

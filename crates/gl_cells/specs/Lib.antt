@@ -1,4 +1,6 @@
 pub mod Causes
+pub mod FirstCalls
+pub mod KnownLibraries
 pub mod Limited
 pub mod Outlines
 pub mod Samples

@@ -3,10 +3,12 @@ ghost use Rattle.gl_text.specs.LogicalLines.{FILE};
 ghost use Rattle.gl_printed.specs.ReadDecks.{IsReadDeck};
 ghost use Rattle.gl_base.specs.Libraries.{cell_of, library_cause, read_library};
 ghost use Rattle.gl_cells.specs.Causes.{cause_of, Gives, IsFoundCause};
+ghost use Rattle.gl_cells.specs.KnownLibraries.{IsKnownLibrary};
 ghost use Rattle.gl_cells.specs.Limited.{AreCountable};
 
 use crate::cells::{cells_within_limits, refuse_cells, refuse_top};
 use crate::clashes::refuse_clashes;
+use crate::known::read_libraries_are_known;
 use crate::{Deck, LibCell, LibFault, Library};
 use gl_known::read_decks_are_known;
 use gl_printed::read_decks_are_fine;
@@ -33,7 +35,9 @@ impl Library {
     pub fn read(alloc: Global, bytes: &[u8]) -> Result<Library, LibFault>
         requires size { length bytes.now ≤ FILE }
         ensures reads { Gives result (read_library bytes.now) }
+        ensures known { IfOk result IsKnownLibrary }
     {
+        read_libraries_are_known();
         read_decks_are_fine();
         read_decks_are_known();
         let deck = Deck::read(alloc, bytes, false)?;

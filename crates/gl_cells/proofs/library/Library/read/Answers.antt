@@ -1,4 +1,5 @@
 use Rattle.std.proofs.Common.{false, length}
+use Rattle.gl_cells.proofs.KnownLaws.{library_is}
 use Rattle.gl_cells.proofs.SizeLaws.{countable}
 use Rattle.gl_cells.proofs.library.Library.read.Goals as goal
 
@@ -8,3 +9,9 @@ judged-requires-clause-read c = c.read_decks_are_fine.ensures.are_fine false c.a
 pub judged-requires-clause-few : goal.judged-requires-clause-few
 judged-requires-clause-few c =
     countable (length c.args.bytes.now) c.in_ok-deck.deck c.requires.size (c.read_decks_are_known.ensures.known false c.args.bytes.now c.in_ok-deck.deck c.in_ok-deck.ensures.read)
+
+pub returns-clause-known : goal.returns-clause-known
+returns-clause-known c =
+    let deck = c.in_ok-deck.deck in
+    let is = library_is c.args.bytes.now deck c.in_ok-cells.cells.items c.in_ok-deck.ensures.read c.in_ok-cells.ensures.accepted c.in_ok-cells.ensures.cells in
+    c.read_libraries_are_known.ensures.known c.args.bytes.now _ c.requires.size is
