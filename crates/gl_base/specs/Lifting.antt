@@ -1,9 +1,9 @@
 -- What the job `lift` writes of a deck and a library: the report of one round over the searched cells of level 0. This project's own.
-use Rattle.std.specs.Prelude.{◌≡◌, ℕ, List, length, map, flat_map, filter_map, zip, Option, Some, None, Result, Ok, Err, slice_get}
+use Rattle.std.specs.Prelude.{◌≡◌, ℕ, List, length, map, flat_map, filter_map, zip, Option, Some, None, Result, Ok, Err}
 use Rattle.gl_text.specs.LogicalLines.{Fault}
 use Rattle.gl_text.specs.Decks.{Sub, Deck}
 use Rattle.gl_text.specs.Flattening.{Flat, device_name, flatten}
-use Rattle.gl_text.specs.OneCell.{call_line}
+use Rattle.gl_text.specs.OneCell.{call_line, earliest}
 use Rattle.gl_match.specs.declared.role.Pick.{Pick}
 use Rattle.gl_match.specs.Listing.{Instance}
 use Rattle.gl_base.specs.Libraries.{Cause, Library, read_library}
@@ -22,7 +22,7 @@ pub data LibraryCause : Type 0 where
 
 -- the line of the first X card in a subcircuit, if there is one
 abbrev pub first_call : Deck → Option ℕ
-first_call deck = slice_get (flat_map (λ (s : Sub). filter_map call_line s.cards) deck.subs) 0
+first_call deck = earliest (flat_map (λ (s : Sub). filter_map call_line s.cards) deck.subs)
 
 abbrev pub unless_call : Option ℕ → Library → Result Library LibraryCause
 unless_call None library = Ok library

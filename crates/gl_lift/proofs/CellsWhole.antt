@@ -1,11 +1,11 @@
 -- The searched cells of a library without X cards are whole.
 use Rattle.std.proofs.Common.{◌≡◌, ◌<◌, ◌≤◌, ◌+◌, ℕ, List, [], ◌∷◌, ◌++◌, length, map, cond, true, false, Bool, Option, Some, None, refl, sym, ap, ◌∙◌, subst, arith, flat_map, codes}
-use Rattle.std.specs.Prelude.{filter, filter_map, zip, find, not, ◌&&◌, All, slice_get, ◌==◌, option_map}
+use Rattle.std.specs.Prelude.{filter, filter_map, zip, find, not, ◌&&◌, All, ◌==◌, option_map}
 use Rattle.std.specs.List.{list_all, AllByRecursion}
 use Rattle.std.proofs.lemmas.List.Elements.{All-from_recursion, recursion_from_All}
 use Rattle.gl_text.specs.Cards.{Device, IsDeviceCard}
 use Rattle.gl_text.specs.Decks.{Body, dev_at, call_at, Sub, is_in, has_twice}
-use Rattle.gl_text.specs.OneCell.{devices_in, call_line, is_on_card, IsCellOf}
+use Rattle.gl_text.specs.OneCell.{devices_in, call_line, earlier, earliest, is_on_card, IsCellOf}
 use Rattle.gl_base.specs.Libraries.{Skip, empty, loose, uses, Cell, cell_of, skip_of, skip_by, own_skip, uses_else, empty_else, loose_port, nodes_of}
 use Rattle.gl_base.specs.Rounds.{is_searched}
 use Rattle.gl_printed.proofs.Each.{each_both, each_filter, each_map, each_passes}
@@ -18,9 +18,13 @@ use Rattle.gl_lib.specs.Sources.{IsWhole}
 abbrev pub NoCalls : List Body → Type 0
 NoCalls cards = filter_map call_line cards ≡ []
 
-none_first : {A : Type 0} (xs : List A) → slice_get xs 0 ≡ None → xs ≡ []
+some_earlier : (line : ℕ) (others : Option ℕ) → earlier (Some line) others ≡ None → ⊥
+some_earlier line None h = absurd cc
+some_earlier line (Some other) h = absurd cc
+
+none_first : (lines : List ℕ) → earliest lines ≡ None → lines ≡ []
 none_first [] h = refl
-none_first (x ∷ xs) h = absurd cc
+none_first (line ∷ lines) h = absurd (some_earlier line (earliest lines) h)
 
 both_empty : {A : Type 0} (xs ys : List A) → xs ++ ys ≡ [] → (xs ≡ []) × (ys ≡ [])
 both_empty [] ys h = (refl, h)
@@ -30,7 +34,7 @@ each_without : (ss : List Sub) → flat_map (λ (s : Sub). filter_map call_line 
 each_without [] h = tt
 each_without (s ∷ ss) h = let p = both_empty (filter_map call_line s.cards) (flat_map (λ (s : Sub). filter_map call_line s.cards) ss) h in (p.0, each_without ss p.1)
 
-pub without_calls : (ss : List Sub) → slice_get (flat_map (λ (s : Sub). filter_map call_line s.cards) ss) 0 ≡ None → AllByRecursion (λ (s : Sub). NoCalls s.cards) ss
+pub without_calls : (ss : List Sub) → earliest (flat_map (λ (s : Sub). filter_map call_line s.cards) ss) ≡ None → AllByRecursion (λ (s : Sub). NoCalls s.cards) ss
 without_calls ss h = each_without ss (none_first (flat_map (λ (s : Sub). filter_map call_line s.cards) ss) h)
 
 -- ---- cards without X cards are devices

@@ -1,13 +1,11 @@
 //! From a deck and a library to the report: the deck flattened, its circuit, the round, and the text.
 #![tactic(auto)]
 
-mod calls;
 mod laws;
 mod report;
 #[cfg(test)]
 mod tests;
 
-pub use calls::first_call;
 pub use gl_cells::{Deck, LibFault, Library};
 pub use gl_flat::FlatFault;
 pub use laws::{flat_decks_are_sound, reports_by_numbers_are_reports, taken_files_are_lifted};

@@ -16,7 +16,7 @@ use crate::reading::read;
 use gl_cells::LibFault;
 use gl_deck::{Deck, DeckFault};
 use gl_desk::{Desk, Slot};
-use gl_lift::{Library, first_call, taken_files_are_lifted};
+use gl_lift::{Library, taken_files_are_lifted};
 use std::alloc::Global;
 
 /// How a run ends whose deck is refused as it is read.
@@ -66,7 +66,7 @@ fn taken(alloc: Global, bytes: &[u8]) -> Result<Library, Ending>
         Ok(library) => library,
         Err(fault) => return Err(unread_library(fault)),
     };
-    match first_call(&library) {
+    match library.first_call() {
         Some(line) => Err(Ending::LibraryRefused(LibraryRefusal::NotYet { line })),
         None => Ok(library),
     }
