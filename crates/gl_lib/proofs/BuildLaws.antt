@@ -1,14 +1,14 @@
 -- What the tables give is the circuit of the deck and the patterns of the cells, and want of memory alone refuses it.
 use Rattle.std.proofs.Common.{◌≡◌, ◌+◌, ◌<◌, ◌≤◌, ℕ, List, [], ◌∷◌, ◌++◌, length, get_or, map, Option, None, Some, refl, sym, ap, ◌∙◌, subst, arith, inl, inr}
 use Rattle.std.specs.Prelude.{Contains, ◌⊎◌, All, flat_map, filter_map, position}
-use Rattle.std.proofs.lemmas.List.Elements.{Contains-get_or}
+use Rattle.std.proofs.lemmas.List.Elements.{Contains-get_or, All-map}
 use Rattle.gl_text.specs.LogicalLines.{same_text}
 use Rattle.gl_text.specs.Cards.{Device as Card, Head}
 use Rattle.gl_text.specs.Decks.{once}
 use Rattle.gl_text.specs.Flattening.{top_ports}
-use Rattle.gl_text.specs.OneCell.{IsCellOf}
+use Rattle.gl_text.specs.OneCell.{devices_in, IsCellOf}
 use Rattle.gl_match.specs.declared.role.Role.{Role}
-use Rattle.gl_match.specs.Graph.{Circuit, Pattern, Device}
+use Rattle.gl_match.specs.Graph.{Circuit, Pattern, Device, FitsInto}
 use Rattle.gl_graph.specs.declared.fault.BuildFault.{BuildFault}
 use Rattle.gl_graph.specs.declared.fault.BuildFault.TheVariants.{Memory}
 use Rattle.gl_graph.specs.Built.{circuit_size, pattern_size, circuit_of as circuit_given, pattern_of as pattern_given}
@@ -18,11 +18,15 @@ use Rattle.gl_base.specs.TypeNames.{TypeName, type_by, word_of, classes_of}
 use Rattle.gl_base.specs.BaseCircuit.{Source, nets_of, net_number, types_of, type_in, device_by, device_of, circuit_of}
 use Rattle.gl_base.specs.Patterns.{role_of, role_by, pattern_of, IsSound}
 use Rattle.gl_base.specs.Libraries.{Library}
+use Rattle.gl_base.specs.Rounds.{cells_at, searched, cell_pattern}
 use Rattle.gl_base.proofs.OnceLaws.{found, once_kept}
 use Rattle.gl_base.proofs.TextLaws as text
 use Rattle.gl_flat.specs.Numbered.{Numbered, NumberedDevice}
 use Rattle.gl_lib.specs.Sources.{cards_in, source_in, NodesBelow, device_of_flat, AreSound}
 use Rattle.gl_lib.specs.Numbered.{AreNets, IsNumbered, IsAmongTypes}
+use Rattle.gl_lib.proofs.CircuitLaws.{few_nets}
+use Rattle.gl_lib.proofs.CellLaws.{cells_among}
+use Rattle.gl_lib.proofs.FitLaws.{pattern_fits}
 use Rattle.gl_lib.proofs.PatternLaws.{ports_are_nets}
 use Rattle.gl_lib.proofs.SoundLaws.{circuit_sound, circuit_small, cell_numbered, pattern_sound, pattern_few}
 use Rattle.gl_lib.proofs.FlatLaws.{flat_devices_same, flat_among, nets_once}
@@ -54,13 +58,11 @@ module _ (s : Source) (words : List ℕ → Option (List ℕ)) (kinds : List Typ
   words_same = λ i name. words_are name i
 
   -- the cards of a cell have numbers in the tables
-  pub cell_by_tables : IsSound s → (head : Head) (cards given : List Card) → Contains s.cells cards → IsCellOf head cards → given ≡ cards → (nets : List (List ℕ)) → nets ≡ nets_of given → All (IsNumbered (type_by words) kinds nets) given
-  cell_by_tables is head cards given among whole same nets e =
-      let nets_are : nets ≡ nets_of cards = e ∙ ap nets_of same in
-      subst (λ (cs : List Card). All (IsNumbered (type_by words) kinds nets) cs) (sym same)
-      (subst (λ ns. All (IsNumbered (type_by words) kinds ns) cards) (sym nets_are)
+  pub cell_by_tables : IsSound s → (head : Head) (cards : List Card) → Contains s.cells cards → IsCellOf head cards → (nets : List (List ℕ)) → nets ≡ nets_of cards → All (IsNumbered (type_by words) kinds nets) cards
+  cell_by_tables is head cards among whole nets e =
+      subst (λ ns. All (IsNumbered (type_by words) kinds ns) cards) (sym e)
       (subst (λ ks. All (IsNumbered (type_by words) ks (nets_of cards)) cards) (sym kinds_are)
-      (subst (λ ws. All (IsNumbered (type_by ws) (types_of s) (nets_of cards)) cards) (sym words_same) (cell_numbered s is head cards among whole))))
+      (subst (λ ws. All (IsNumbered (type_by ws) (types_of s) (nets_of cards)) cards) (sym words_same) (cell_numbered s is head cards among whole)))
 
   -- the types of flat devices have numbers in the tables
   pub flat_by_tables : (devices : List NumberedDevice) → All (IsAmongTypes (type_in s) (types_of s)) devices → All (IsAmongTypes (type_by words) kinds) devices
@@ -69,17 +71,16 @@ module _ (s : Source) (words : List ℕ → Option (List ℕ)) (kinds : List Typ
       (subst (λ ws. All (IsAmongTypes (type_by ws) (types_of s)) devices) (sym words_same) h)
 
   -- what is given for a pattern
-  pub pattern_is : (head : Head) (cards given : List Card) → IsCellOf head cards → given ≡ cards → (nets ports port_names net_items all : List (List ℕ)) (parts : List Device) (roles : List Role) (numbers : List ℕ)
-      → nets ≡ nets_of given → ports ≡ once port_names → port_names ≡ head.ports → net_items ≡ nets → all ≡ all_rails s.rails
-      → parts ≡ map (device_by (type_by words) kinds nets) given → roles ≡ map (λ net. role_by (position (same_text net) all) (position (same_text net) ports)) net_items → numbers ≡ map (net_number nets) port_names
+  pub pattern_is : (head : Head) (cards : List Card) → IsCellOf head cards → (nets ports port_names net_items all : List (List ℕ)) (parts : List Device) (roles : List Role) (numbers : List ℕ)
+      → nets ≡ nets_of cards → ports ≡ once port_names → port_names ≡ head.ports → net_items ≡ nets → all ≡ all_rails s.rails
+      → parts ≡ map (device_by (type_by words) kinds nets) cards → roles ≡ map (λ net. role_by (position (same_text net) all) (position (same_text net) ports)) net_items → numbers ≡ map (net_number nets) port_names
       → pattern_given parts roles numbers ≡ pattern_of s head cards
-  pattern_is head cards given whole same nets ports port_names net_items all parts roles numbers e ports_are names_are items_are all_are p r q =
-      let nets_are : nets ≡ nets_of cards = e ∙ ap nets_of same in
-      let parts_are : parts ≡ map (device_of s (nets_of cards)) cards = p ∙ (λ i. map (device_by (type_by (words_same i)) (kinds_are i) (nets_are i)) (same i)) in
+  pattern_is head cards whole nets ports port_names net_items all parts roles numbers e ports_are names_are items_are all_are p r q =
+      let parts_are : parts ≡ map (device_of s (nets_of cards)) cards = p ∙ (λ i. map (device_by (type_by (words_same i)) (kinds_are i) (e i)) cards) in
       let ports_stay : ports ≡ head.ports = ports_are ∙ ap once names_are ∙ text.once_is head.ports ∙ once_kept same_text text.exact text.itself head.ports (text.once_from head.ports whole.ports_differ) in
-      let net_items_are : net_items ≡ nets_of cards = items_are ∙ nets_are in
+      let net_items_are : net_items ≡ nets_of cards = items_are ∙ e in
       let roles_are : roles ≡ map (role_of s.rails head.ports) (nets_of cards) = r ∙ (λ i. map (λ net. role_by (position (same_text net) (all_are i)) (position (same_text net) (ports_stay i))) (net_items_are i)) in
-      let numbers_are : numbers ≡ map (net_number (nets_of cards)) head.ports = q ∙ (λ i. map (net_number (nets_are i)) (names_are i)) in
+      let numbers_are : numbers ≡ map (net_number (nets_of cards)) head.ports = q ∙ (λ i. map (net_number (e i)) (names_are i)) in
       λ i. pattern_given (parts_are i) (roles_are i) (numbers_are i)
 
 -- what is given for the circuit
@@ -112,3 +113,19 @@ circuit_few s is given e = subst (λ c. circuit_size c < 4294967295) (sym e) (ci
 
 pub circuit_unrefused : (s : Source) → IsSound s → (given : Circuit) → given ≡ circuit_of s → circuit_fault given ≡ None
 circuit_unrefused s is given e = ap circuit_fault e ∙ circuit_sound s is
+
+-- a flat deck has few nets
+pub few_flat_nets : (f : Numbered) (library : Library) → AreSound f library → length f.nets < 4294967296
+few_flat_nets f library is = let same = ap length is.nets_are in omega (arith, same, few_nets (cards_in f), is.source.deck_places)
+
+-- each pattern fits into the circuit
+pub all_fit : (f : Numbered) (library : Library) → AreSound f library → (circuit : Circuit) (patterns : List Pattern) → circuit ≡ circuit_of (source_in f library)
+    → patterns ≡ map (cell_pattern (source_in f library)) (searched (cells_at 0 library)) → All (FitsInto circuit) patterns
+all_fit f library is circuit patterns circuit_is patterns_are =
+    let s = source_in f library in
+    let cells = searched (cells_at 0 library) in
+    subst (λ c. All (FitsInto c) patterns) (sym circuit_is)
+    (subst (All (FitsInto (circuit_of s))) (sym patterns_are)
+    (All-map (FitsInto (circuit_of s)) (cell_pattern s) cells (λ k d lt.
+    let cell = get_or cells k d in
+    pattern_fits s is.source cell.head (devices_in cell.cards) (cells_among 0 library cell (Contains-get_or cells k d lt)) (is.whole_cells k d lt))))

@@ -15,13 +15,13 @@ use Rattle.gl_lib.proofs.FaultLaws.{no_fault, none_from_start}
 -- what is kept comes from an item
 from_filter_map : {X Y : Type 0} (f : X → Option Y) (xs : List X) (y : Y) → Contains (filter_map f xs) y → (x : X) × (f x ≡ Some y)
 from_filter_map f [] y h = absurd (in_none y h)
-from_filter_map {X} {Y} f (x ∷ xs) y h = go (f x) refl h where
-  go : (o : Option Y) → f x ≡ o → Contains (cons_option o (filter_map f xs)) y → (x : X) × (f x ≡ Some y)
-  go None e g = from_filter_map f xs y g
-  go (Some z) e g =
+from_filter_map {X} {Y} f (x ∷ xs) y h = go (f x) refl h (from_filter_map f xs y) where
+  go : (o : Option Y) → f x ≡ o → Contains (cons_option o (filter_map f xs)) y → (Contains (filter_map f xs) y → (x : X) × (f x ≡ Some y)) → (x : X) × (f x ≡ Some y)
+  go None e g rest = rest g
+  go (Some z) e g rest =
       elim (in_cons z (filter_map f xs) y g) [
         | inl same ↦ (x, e ∙ ap Some same)
-        | inr later ↦ from_filter_map f xs y later
+        | inr later ↦ rest later
       ]
 
 -- no more is kept than there was

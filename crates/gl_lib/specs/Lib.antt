@@ -2,3 +2,4 @@ pub mod Keys
 pub mod Sources
 pub mod Numbered
 pub mod Tables
+pub mod Samples

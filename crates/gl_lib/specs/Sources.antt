@@ -1,5 +1,5 @@
 -- A flat deck with numbered nets and a library, as what circuits and patterns are made from. This project's own.
-use Rattle.std.specs.Prelude.{◌≡◌, ℕ, ◌<◌, List, [], length, map, flat_map, All}
+use Rattle.std.specs.Prelude.{◌≡◌, ◌==◌, ◌&&◌, ℕ, ◌<◌, Bool, List, [], length, map, filter, flat_map, All}
 use Rattle.gl_text.specs.Cards.{Device as Card}
 use Rattle.gl_text.specs.Decks.{Sub}
 use Rattle.gl_text.specs.Flattening.{top_ports}
@@ -8,8 +8,8 @@ use Rattle.gl_match.specs.Graph.{Device}
 use Rattle.gl_base.specs.TypeNames.{TypeName}
 use Rattle.gl_base.specs.BaseCircuit.{Source, nets_of, type_number}
 use Rattle.gl_base.specs.Patterns.{IsSound}
-use Rattle.gl_base.specs.Libraries.{Library}
-use Rattle.gl_base.specs.Rounds.{cells_at, searched}
+use Rattle.gl_base.specs.Libraries.{Cell, Library}
+use Rattle.gl_base.specs.Rounds.{cells_at, is_searched, searched}
 use Rattle.gl_flat.specs.Numbered.{Numbered, NumberedDevice, named_card}
 
 -- the devices of a flat deck as cards, each net by its name
@@ -38,6 +38,14 @@ source_in f library = record {
 -- all nets of a device are below a number
 abbrev pub NodesBelow : ℕ → NumberedDevice → Type 0
 NodesBelow nets d = All (λ net. net < nets) d.nodes
+
+-- a cell is searched in the round of a level
+abbrev pub is_searched_at : ℕ → Cell → Bool
+is_searched_at level cell = (cell.level == level) && is_searched cell.skip
+
+-- of some cells, those that are
+abbrev pub searched_among : ℕ → List (Sub × Cell) → List Sub
+searched_among level cells = map (λ c. c.0) (filter (λ c. is_searched_at level c.1) cells)
 
 -- a cell has devices, and each port stands on one
 abbrev pub IsWhole : Sub → Type 0

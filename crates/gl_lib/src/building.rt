@@ -1,8 +1,9 @@
 //! The patterns of cells and the circuit of a deck, from the tables.
 ghost use Rattle.std.specs.Prelude.{◌≡◌, map, Contains, IfOk};
-ghost use Rattle.gl_text.specs.OneCell.{devices_in};
+ghost use Rattle.gl_text.specs.OneCell.{devices_in, IsCellOf};
 ghost use Rattle.gl_base.specs.TypeNames.{classes_of};
 ghost use Rattle.gl_base.specs.BaseCircuit.{circuit_of, types_of};
+ghost use Rattle.gl_base.specs.Patterns.{pattern_of};
 ghost use Rattle.gl_base.specs.Rounds.{cells_at, searched, cell_pattern};
 ghost use Rattle.gl_lib.specs.Sources.{IsWhole, cells_in};
 ghost use Rattle.gl_lib.specs.Tables.{ArePartsSound, AreTablesOf, source_of};
@@ -13,6 +14,7 @@ use crate::names::Names;
 use crate::parts::Parts;
 use crate::roles::{pinned_nets, rail_nets, roles_of};
 use crate::tables::Tables;
+use gl_card::{DevCard, Head};
 use gl_cells::Sub;
 use gl_graph::{BuildFault, Circuit, Pattern, Shape};
 use std::alloc::{AllocError, Global};
@@ -27,8 +29,37 @@ fn want_of_memory(fault: BuildFault) -> AllocError
     }
 }
 
-/// The pattern of a cell.
+/// The pattern of a cell's cards.
 fn build_pattern(
+    alloc: Global,
+    parts: &Parts,
+    tables: &Tables,
+    shapes: &[Shape],
+    head: &Head,
+    cards: &[&DevCard],
+) -> Result<Pattern, AllocError>
+    requires sound { ArePartsSound parts.now }
+    requires tables { AreTablesOf (source_of parts.now) tables.now }
+    requires shapes { shapes.now ≡ map classes_of (types_of (source_of parts.now)) }
+    requires among { Contains (cells_in parts.now.library.now) (map (λ c. c.now) cards.now) }
+    requires whole { IsCellOf head.now (map (λ c. c.now) cards.now) }
+    ensures pattern { IfOk result (λ p. p ≡ pattern_of (source_of parts.now) head.now (map (λ c. c.now) cards.now)) }
+{
+    let nets = Names::of_nets(alloc, cards)?;
+    let port_names = head.ports();
+    let ports = Names::of(alloc, port_names)?;
+    let devices = devices_of(alloc, &tables.words, &tables.kinds, &nets, cards)?;
+    let roles = roles_of(alloc, &tables.rails, &ports, nets.items())?;
+    let port_nets = numbers_of(alloc, &nets, port_names)?;
+    let rails = tables.rails.count();
+    match Pattern::build(alloc, shapes, rails, devices, roles, port_nets) {
+        Ok(pattern) => Ok(pattern),
+        Err(fault) => Err(want_of_memory(fault)),
+    }
+}
+
+/// The pattern of a cell.
+fn pattern_of_cell(
     alloc: Global,
     parts: &Parts,
     tables: &Tables,
@@ -43,17 +74,7 @@ fn build_pattern(
     ensures pattern { IfOk result (λ p. p ≡ cell_pattern (source_of parts.now) cell.now) }
 {
     let cards = cards_of(alloc, cell.cards())?;
-    let nets = Names::of_nets(alloc, &cards)?;
-    let port_names = cell.head().ports();
-    let ports = Names::of(alloc, port_names)?;
-    let devices = devices_of(alloc, &tables.words, &tables.kinds, &nets, &cards)?;
-    let roles = roles_of(alloc, &tables.rails, &ports, nets.items())?;
-    let port_nets = numbers_of(alloc, &nets, port_names)?;
-    let rails = tables.rails.count();
-    match Pattern::build(alloc, shapes, rails, devices, roles, port_nets) {
-        Ok(pattern) => Ok(pattern),
-        Err(fault) => Err(want_of_memory(fault)),
-    }
+    build_pattern(alloc, parts, tables, shapes, cell.head(), &cards)
 }
 
 /// The patterns of the searched cells of level 0, in library order.
@@ -71,7 +92,7 @@ pub fn build_patterns(
     let cells = searched_cells(alloc, parts.library, 0)?;
     let mut patterns = Vec::with_capacity(alloc, cells.len())?;
     for cell in &cells {
-        patterns.push(build_pattern(alloc, parts, tables, shapes, cell)?)?;
+        patterns.push(pattern_of_cell(alloc, parts, tables, shapes, cell)?)?;
     }
     Ok(patterns)
 }

@@ -71,11 +71,7 @@ fn flat_device(
     ensures device { IfOk result (λ made. made ≡ device_of_flat (type_by (get same_text words.now)) kinds.now device.now) }
 {
     let kind = kinds.number(&flat_type(alloc, words, device)?);
-    let nets = device
-        .nodes()
-        .iter()
-        .map(|net| NetId(*net))
-        .collect(alloc)?;
+    let nets = device.nodes().iter().map(|net| NetId(*net)).collect(alloc)?;
     Ok(Device { kind, nets })
 }
 

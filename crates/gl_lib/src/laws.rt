@@ -1,13 +1,17 @@
 //! Laws over the definitions: each is the contract of a function that does nothing.
-ghost use Rattle.std.specs.Prelude.{◌≡◌, ◌<◌, ℕ, List, [], ◌∷◌, None, length, map, Contains};
+ghost use Rattle.std.specs.Prelude.{◌≡◌, ◌<◌, ℕ, List, [], ◌∷◌, None, Some, length, map, Contains};
 ghost use Rattle.std.specs.List.{AllByRecursion};
 ghost use Rattle.gl_text.specs.Cards.{Device as Card, Head as Cell, global};
 ghost use Rattle.gl_text.specs.OneCell.{IsCellOf};
+ghost use Rattle.gl_match.specs.declared.role.Role.TheVariants.{Port, Rail};
 ghost use Rattle.gl_match.specs.Graph.{FitsInto};
 ghost use Rattle.gl_base.specs.Rails.{all_rails, run_rails};
 ghost use Rattle.gl_base.specs.TypeNames.{classes_of};
 ghost use Rattle.gl_base.specs.BaseCircuit.{Source, circuit_of, types_of};
 ghost use Rattle.gl_base.specs.Patterns.{pattern_of, IsSound};
+ghost use Rattle.gl_base.specs.Rounds.{cells_at, searched, cell_pattern};
+ghost use Rattle.gl_lib.specs.Sources.{AreSound, source_in};
+ghost use Rattle.gl_lib.specs.Samples.{sample_deck, sample_library};
 ghost use Rattle.gl_printed.specs.ReadCards.{IsFine};
 ghost use Rattle.gl_printed.specs.FlatDecks.{AreRails};
 ghost use Rattle.gl_graph.specs.Built.{circuit_size};
@@ -27,4 +31,26 @@ pub fn sources_are_sound()
 pub fn run_rails_are_fine()
     ensures rails { (deck library : List (List ℕ)) → AllByRecursion (λ n. IsFine (global (n ∷ []))) deck → AllByRecursion (λ n. IsFine (global (n ∷ []))) library
         → AreRails (run_rails deck library) }
+{}
+
+/// A deck and a library: a model that both define, a cell that is skipped and whose type counts, a cell of another level, a
+/// port that is a rail, a cell named as a letter, and ports of the deck that pin nets.
+pub fn base_rows()
+    ensures sound { AreSound sample_deck sample_library }
+    ensures circuit { circuit_of (source_in sample_deck sample_library) ≡ record {
+      shapes = (0 ∷ 1 ∷ 0 ∷ 2 ∷ []) ∷ (0 ∷ 1 ∷ 0 ∷ 2 ∷ []) ∷ (0 ∷ 0 ∷ []) ∷ (0 ∷ 1 ∷ []) ∷ (0 ∷ 0 ∷ []) ∷ [];
+      devices = record { kind = 0; nets = 0 ∷ 1 ∷ 2 ∷ 2 ∷ [] } ∷ record { kind = 1; nets = 0 ∷ 1 ∷ 3 ∷ 3 ∷ [] } ∷ record { kind = 2; nets = 0 ∷ 3 ∷ [] } ∷ [];
+      nets = 4;
+      rails = Some 3 ∷ Some 2 ∷ [];
+      pinned = 1 ∷ 2 ∷ [];
+    } }
+    ensures patterns { map (cell_pattern (source_in sample_deck sample_library)) (searched (cells_at 0 sample_library)) ≡ record {
+      devices = record { kind = 0; nets = 0 ∷ 1 ∷ 2 ∷ 2 ∷ [] } ∷ record { kind = 1; nets = 0 ∷ 1 ∷ 3 ∷ 3 ∷ [] } ∷ [];
+      roles = Port 1 ∷ Port 0 ∷ Rail 1 ∷ Rail 0 ∷ [];
+      ports = 1 ∷ 0 ∷ [];
+    } ∷ record {
+      devices = record { kind = 4; nets = 0 ∷ 1 ∷ [] } ∷ [];
+      roles = Rail 1 ∷ Port 1 ∷ [];
+      ports = 0 ∷ 1 ∷ [];
+    } ∷ [] }
 {}

@@ -21,5 +21,5 @@ pub use base::{Base, base_of};
 pub use gl_card::{DevCard, Head, Letter, ModelCard, Name};
 pub use gl_cells::Library;
 pub use gl_flat::Flat;
-pub use laws::{run_rails_are_fine, sources_are_sound};
+pub use laws::{base_rows, run_rails_are_fine, sources_are_sound};
 pub use rails::run_rails;

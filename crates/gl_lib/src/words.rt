@@ -85,11 +85,7 @@ pub fn type_of(alloc: Global, words: &Words, card: &DevCard) -> Result<TypeName,
 }
 
 /// The type of a flat device.
-pub fn flat_type(
-    alloc: Global,
-    words: &Words,
-    device: &FlatDevice,
-) -> Result<TypeName, AllocError>
+pub fn flat_type(alloc: Global, words: &Words, device: &FlatDevice) -> Result<TypeName, AllocError>
     ensures kind { IfOk result (λ kind. kind ≡ flat.type_of_flat (type_by (get same_text words.now)) device.now) }
 {
     type_with(alloc, words, device.letter, device.model())

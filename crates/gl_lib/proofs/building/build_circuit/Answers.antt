@@ -1,31 +1,54 @@
-use Rattle.std.proofs.Common.{◌∙◌, ap, length}
+use Rattle.std.proofs.Common.{◌∙◌, length, sym, ap, subst, arith}
+use Rattle.std.specs.Prelude.{All}
+use Rattle.std.specs.Option.{option_copied}
 use Rattle.indexmap.specs.IndexMap.{get}
 use Rattle.gl_text.specs.LogicalLines.{same_text}
-use Rattle.gl_lib.proofs.BuildLaws.{only_memory, circuit_fits, circuit_unrefused, deck_by_tables, circuit_read}
+use Rattle.gl_base.specs.TypeNames.{type_by}
+use Rattle.gl_lib.specs.Numbered.{IsAmongTypes}
+use Rattle.gl_lib.specs.Tables.{source_of}
+use Rattle.gl_lib.proofs.FlatLaws.{flat_among}
+use Rattle.gl_lib.proofs.BuildLaws.{only_memory, few_flat_nets, flat_by_tables, circuit_is, circuit_few, circuit_unrefused}
 use Rattle.gl_lib.proofs.building.build_circuit.Goals as goal
 
-pub devices_of-requires : goal.devices_of-requires
-devices_of-requires c =
+pub of-requires : goal.of-requires
+of-requires c =
     let p = c.args.parts.now in
-    deck_by_tables p.rails.now p.deck_models.now p.library_models.now p.devices.now p.head.now p.cell.now c.requires.sound (get same_text c.args.tables.now.words) c.args.tables.now.kinds c.requires.tables.words_are c.requires.tables.kinds_are c.args.nets.now c.requires.nets
+    let same = ap length c.nets.ensures.nets in
+    omega (arith, same, few_flat_nets p.flat.now p.library.now c.requires.sound)
+
+pub flat_devices-requires : goal.flat_devices-requires
+flat_devices-requires c =
+    let p = c.args.parts.now in
+    let t = c.args.tables.now in
+    subst (All (IsAmongTypes (type_by (get same_text t.words)) t.kinds)) (sym c.devices.ensures.devices)
+    (flat_by_tables (source_of p) (get same_text t.words) t.kinds c.requires.tables.words_are c.requires.tables.kinds_are p.flat.now.devices (flat_among p.flat.now p.library.now))
 
 pub build-requires : goal.build-requires
 build-requires c =
     let p = c.args.parts.now in
-    let given = circuit_read p c.args.tables.now c.requires.sound c.requires.tables c.args.nets.now c.items.result.now c.args.shapes.items c.in_ok-devices.devices.items c.count-count.result c.in_ok-rails.rails.items c.new-pinned.result.items
-    c.requires.nets c.requires.shapes c.items.ensures.items c.in_ok-devices.ensures.devices c.count-count.ensures.count c.in_ok-rails.ensures.nets c.new-pinned.ensures.items in
-    record { size = circuit_fits p.rails.now p.deck_models.now p.library_models.now p.devices.now p.head.now p.cell.now c.requires.sound _ given }
+    let t = c.args.tables.now in
+    let given = circuit_is p.flat.now p.library.now c.requires.sound (get same_text t.words) t.kinds c.requires.tables.words_are c.requires.tables.kinds_are
+    c.in_ok-nets.nets c.nets.result.now t.rails c.items.result.now c.args.shapes.items c.devices.result.now c.in_ok-devices.devices.items c.count.result c.in_ok-rails.rails.items c.in_ok-pinned.pinned.items (option_copied c.top.result)
+    c.nets.ensures.nets c.in_ok-nets.ensures.names c.items.ensures.items c.requires.tables.rails_are c.requires.shapes c.devices.ensures.devices c.top.ensures.top
+    c.in_ok-devices.ensures.devices c.count.ensures.count c.in_ok-rails.ensures.nets c.in_ok-pinned.ensures.pinned in
+    record { size = circuit_few (source_of p) c.requires.sound.source _ given }
 
 pub returns-in-Ok : goal.returns-in-Ok
 returns-in-Ok c =
     let p = c.args.parts.now in
-    let given = circuit_read p c.args.tables.now c.requires.sound c.requires.tables c.args.nets.now c.items.result.now c.args.shapes.items c.in_ok-devices.devices.items c.count-count.result c.in_ok-rails.rails.items c.new-pinned.result.items
-    c.requires.nets c.requires.shapes c.items.ensures.items c.in_ok-devices.ensures.devices c.count-count.ensures.count c.in_ok-rails.ensures.nets c.new-pinned.ensures.items in
+    let t = c.args.tables.now in
+    let given = circuit_is p.flat.now p.library.now c.requires.sound (get same_text t.words) t.kinds c.requires.tables.words_are c.requires.tables.kinds_are
+    c.in_ok-nets.nets c.nets.result.now t.rails c.items.result.now c.args.shapes.items c.devices.result.now c.in_ok-devices.devices.items c.count.result c.in_ok-rails.rails.items c.in_ok-pinned.pinned.items (option_copied c.top.result)
+    c.nets.ensures.nets c.in_ok-nets.ensures.names c.items.ensures.items c.requires.tables.rails_are c.requires.shapes c.devices.ensures.devices c.top.ensures.top
+    c.in_ok-devices.ensures.devices c.count.ensures.count c.in_ok-rails.ensures.nets c.in_ok-pinned.ensures.pinned in
     record { circuit = c.in-Ok.ensures.answer.0 ∙ given }
 
 pub want_of_memory-requires : goal.want_of_memory-requires
 want_of_memory-requires c =
     let p = c.args.parts.now in
-    let given = circuit_read p c.args.tables.now c.requires.sound c.requires.tables c.args.nets.now c.items.result.now c.args.shapes.items c.in_ok-devices.devices.items c.count-count.result c.in_ok-rails.rails.items c.new-pinned.result.items
-    c.requires.nets c.requires.shapes c.items.ensures.items c.in_ok-devices.ensures.devices c.count-count.ensures.count c.in_ok-rails.ensures.nets c.new-pinned.ensures.items in
-    only_memory _ _ (circuit_unrefused p.rails.now p.deck_models.now p.library_models.now p.devices.now p.head.now p.cell.now c.requires.sound _ given) c.in-Err.ensures.answer
+    let t = c.args.tables.now in
+    let given = circuit_is p.flat.now p.library.now c.requires.sound (get same_text t.words) t.kinds c.requires.tables.words_are c.requires.tables.kinds_are
+    c.in_ok-nets.nets c.nets.result.now t.rails c.items.result.now c.args.shapes.items c.devices.result.now c.in_ok-devices.devices.items c.count.result c.in_ok-rails.rails.items c.in_ok-pinned.pinned.items (option_copied c.top.result)
+    c.nets.ensures.nets c.in_ok-nets.ensures.names c.items.ensures.items c.requires.tables.rails_are c.requires.shapes c.devices.ensures.devices c.top.ensures.top
+    c.in_ok-devices.ensures.devices c.count.ensures.count c.in_ok-rails.ensures.nets c.in_ok-pinned.ensures.pinned in
+    only_memory _ _ (circuit_unrefused (source_of p) c.requires.sound.source _ given) c.in-Err.ensures.answer

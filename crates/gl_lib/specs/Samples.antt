@@ -1,0 +1,42 @@
+-- A flat deck and a library on which the definitions are computed.
+use Rattle.std.specs.Prelude.{ℕ, List, [], ◌∷◌, None, Some, codes}
+use Rattle.gl_text.specs.Decks.{Sub}
+use Rattle.gl_base.specs.Libraries.{Library, loose}
+use Rattle.gl_base.specs.Rows.{transistor, resistor, model, inverter_head, inverter_cell, inverter_sub, cards_at_one}
+use Rattle.gl_flat.specs.Numbered.{Numbered, NumberedDevice}
+
+-- an inverter from `in` to `out` and a resistor; ports are `in`, the rail `vdd`, and `nc`, which stands on no device
+abbrev pub sample_deck : Numbered
+sample_deck = record {
+  title = [];
+  rails = codes "vdd" ∷ [];
+  models = model (codes "nch") (codes "nmos") ∷ [];
+  top = Some (record { name = codes "top"; ports = codes "in" ∷ codes "vdd" ∷ codes "nc" ∷ [] });
+  nets = codes "out" ∷ codes "in" ∷ codes "vdd" ∷ codes "0" ∷ [];
+  devices = record { name = codes "m1"; nodes = 0 ∷ 1 ∷ 2 ∷ 2 ∷ []; model = Some (codes "pch"); tail = [] }
+      ∷ record { name = codes "m2"; nodes = 0 ∷ 1 ∷ 3 ∷ 3 ∷ []; model = Some (codes "nch"); tail = [] }
+      ∷ record { name = codes "r1"; nodes = 0 ∷ 3 ∷ []; model = None; tail = [] } ∷ [];
+  passed = [];
+}
+
+-- a cell named `r` with a capacitor, and a port that is a rail
+abbrev pub r_sub : Sub
+r_sub = record { line = 1; head = record { name = codes "r"; ports = codes "vdd" ∷ codes "p" ∷ [] }; cards = cards_at_one (resistor (codes "c1") (codes "vdd") (codes "p") ∷ []) }
+
+-- a cell with a diode of no model, and a port on no card
+abbrev pub odd_sub : Sub
+odd_sub = record { line = 1; head = record { name = codes "odd"; ports = codes "b" ∷ [] }; cards = cards_at_one (record { name = codes "d1"; nodes = codes "a" ∷ codes "0" ∷ []; model = Some (codes "dm"); tail = [] } ∷ []) }
+
+-- an inverter, a cell that is skipped, the cell `r`, and an inverter of level 1; `nch` is defined otherwise than in the deck
+abbrev pub sample_library : Library
+sample_library = record {
+  deck = record {
+    title = [];
+    globals = [];
+    models = model (codes "nch") (codes "other") ∷ model (codes "pch") (codes "pmos") ∷ [];
+    subs = inverter_sub ∷ odd_sub ∷ r_sub ∷ inverter_sub ∷ [];
+    top = [];
+    passed = [];
+  };
+  cells = record { level = 0; skip = None } ∷ record { level = 0; skip = Some (loose (codes "b")) } ∷ record { level = 0; skip = None } ∷ record { level = 1; skip = None } ∷ [];
+}
