@@ -6,3 +6,4 @@ pub mod MarkLaws
 pub mod CountLaws
 pub mod NamedLaws
 pub mod BelowLaws
+pub mod RoundLaws

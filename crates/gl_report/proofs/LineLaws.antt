@@ -32,6 +32,19 @@ skipped_printed out first second third fourth name reason a b c d =
     let whole : fourth ≡ out ++ join_with_byte 32 (codes "cell" ∷ name ∷ codes "skipped" ∷ reason) = words ∙ ap (λ t. out ++ (codes "cell " ++ (name ++ 32 ∷ t))) (sym (joined (codes "skipped") reason)) in
     ap (λ t. t ++ codes "\n") whole ∙ append_assoc out (join_with_byte 32 (codes "cell" ∷ name ∷ codes "skipped" ∷ reason)) (codes "\n")
 
+-- the start of a searched cell's line
+pub counts_printed : (out a b c d e name ports instances : List ℕ) → a ≡ out ++ codes "cell " → b ≡ a ++ name → c ≡ b ++ codes " ports " → d ≡ c ++ ports → e ≡ d ++ codes " instances " → e ++ instances ≡ out ++ join_with_byte 32 (codes "cell" ∷ name ∷ codes "ports" ∷ ports ∷ codes "instances" ∷ instances ∷ [])
+counts_printed out a b c d e name ports instances f g h i j =
+    let pieces : e ≡ ((((out ++ codes "cell ") ++ name) ++ codes " ports ") ++ ports) ++ codes " instances " = j ∙ ap (λ t. t ++ codes " instances ") (i ∙ ap (λ t. t ++ ports) (h ∙ ap (λ t. t ++ codes " ports ") (g ∙ ap (λ t. t ++ name) f))) in
+    ap (λ t. t ++ instances) pieces ∙ simp append_assoc
+
+-- and its end
+pub cell_printed : (out a b c name ports instances chosen : List ℕ) → a ≡ out ++ join_with_byte 32 (codes "cell" ∷ name ∷ codes "ports" ∷ ports ∷ codes "instances" ∷ instances ∷ []) → b ≡ a ++ codes " chosen " → c ≡ b ++ chosen → c ++ codes "\n" ≡ out ++ line (codes "cell" ∷ name ∷ codes "ports" ∷ ports ∷ codes "instances" ∷ instances ∷ codes "chosen" ∷ chosen ∷ [])
+cell_printed out a b c name ports instances chosen f g h =
+    let counts = join_with_byte 32 (codes "cell" ∷ name ∷ codes "ports" ∷ ports ∷ codes "instances" ∷ instances ∷ []) in
+    let pieces : c ≡ ((out ++ counts) ++ codes " chosen ") ++ chosen = h ∙ ap (λ t. t ++ chosen) (g ∙ ap (λ t. t ++ codes " chosen ") f) in
+    ap (λ t. t ++ codes "\n") pieces ∙ simp append_assoc
+
 -- parts of equal names and images
 pub same_ports : (ports ports' nets nets' : List (List ℕ)) (binding binding' : List ℕ) → ports ≡ ports' → nets ≡ nets' → binding ≡ binding' → parts ports (map (name_at nets) binding) ≡ parts ports' (map (name_at nets') binding')
 same_ports ports ports' nets nets' binding binding' a b c = ap (λ ps. parts ps (map (name_at nets) binding)) a ∙ (ap (λ ns. parts ports' (map (name_at ns) binding)) b ∙ ap (λ bs. parts ports' (map (name_at nets') bs)) c)

@@ -11,6 +11,7 @@ use Rattle.gl_match.specs.Listing.{Instance}
 use Rattle.gl_match.specs.Choice.{joined, sets_in, sets_of}
 use Rattle.gl_base.specs.RoundReports.{taken_devices}
 use Rattle.gl_report.specs.Marks.{mark_at, Adds}
+use Rattle.gl_report.proofs.RestLaws.{from_place}
 
 is_in_append : (xs ys : List ℕ) (dev : ℕ) → is_in (xs ++ ys) dev ≡ (is_in xs dev || is_in ys dev)
 is_in_append [] ys dev = refl
@@ -44,11 +45,6 @@ taken_append (s ∷ ss) others (p ∷ ps) more e =
     ∙ (ap (λ t. own ++ t) (taken_append ss others ps more (omega (arith, e)))
     ∙ (sym (append_assoc own (taken_devices ss ps) (taken_devices others more))
     ∙ ap (λ t. t ++ taken_devices others more) (sym (taken_first s ss p ps))))
-
-from_place : {A : Type 0} (xs : List A) (k n : ℕ) (x : A) → k < length xs → n ≡ k + 1 → x ≡ get_or xs k x → drop k xs ≡ x ∷ drop n xs
-from_place xs k n x lt next is =
-    let after : suc k ≡ n = omega (arith, next) in
-    drop-cons xs k x lt ∙ (ap (λ y. y ∷ drop (suc k) xs) (sym is) ∙ ap (λ m. x ∷ drop m xs) after)
 
 -- at an instance of a list
 pub taken_from : (items : List Instance) (picks : List Pick) (k n : ℕ) (item : Instance) (pick : Pick) → k < length items → length picks ≡ length items → n ≡ k + 1 → item ≡ get_or items k item → pick ≡ get_or picks k pick → taken_devices (sets_in (drop k items)) (drop k picks) ≡ taken_devices (item.key.set ∷ []) (pick ∷ []) ++ taken_devices (sets_in (drop n items)) (drop n picks)

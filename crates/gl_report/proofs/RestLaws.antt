@@ -1,8 +1,10 @@
 -- What is printed of the first, and what is left to print.
-use Rattle.std.proofs.Common.{◌≡◌, ℕ, zero, suc, ◌+◌, ◌<◌, ◌≤◌, List, [], ◌∷◌, ◌++◌, length, take, drop, get_or, cond, true, false, Bool, None, Some, refl, sym, ap, ◌∙◌, subst, arith, append_assoc, drop-cons, eqb}
+use Rattle.std.proofs.Common.{◌≡◌, ℕ, zero, suc, ◌+◌, ◌<◌, ◌≤◌, List, [], ◌∷◌, ◌++◌, length, take, drop, get_or, cond, true, false, Bool, None, Some, refl, sym, ap, ◌∙◌, subst, arith, append_assoc, drop-cons, eqb, All}
 use Rattle.std.specs.Prelude.{filter, ◌==◌, Option, map}
 use Rattle.std.specs.List.{zip, AllByRecursion}
-use Rattle.std.proofs.lemmas.List.{append-nil, take-take, take_at, length-take}
+use Rattle.std.proofs.lemmas.List.{append-nil, take-take, length-take, get_or-map}
+use Rattle.std.proofs.Math.Seq.{drop-length}
+use Rattle.std.proofs.lemmas.List.Elements.{All-tail}
 use Rattle.std.proofs.lemmas.List.Concat.{flat_map-append}
 use Rattle.gl_text.specs.Decks.{Body, dev_at, call_at, Sub}
 use Rattle.gl_match.specs.declared.spot.Spot.{Spot}
@@ -27,6 +29,23 @@ front_on a b c first second =
 pub printed_next : (whole before after next behind : List ℕ) → after ≡ before ++ next → before ++ (next ++ behind) ≡ whole → after ++ behind ≡ whole
 printed_next whole before after next behind now was = ap (λ t. t ++ behind) now ∙ (append_assoc before next behind ∙ was)
 
+-- the item at a place, and those behind it
+pub from_place : {A : Type 0} (xs : List A) (k n : ℕ) (x : A) → k < length xs → n ≡ k + 1 → x ≡ get_or xs k x → drop k xs ≡ x ∷ drop n xs
+from_place xs k n x lt next is =
+    let after : suc k ≡ n = omega (arith, next) in
+    drop-cons xs k x lt ∙ (ap (λ y. y ∷ drop (suc k) xs) (sym is) ∙ ap (λ m. x ∷ drop m xs) after)
+
+-- what equals the item at a place is it
+pub at_same : {A : Type 0} (xs : List A) (k : ℕ) (x y : A) → y ≡ x → x ≡ get_or xs k x → y ≡ get_or xs k y
+at_same xs k x y e is = e ∙ (is ∙ ap (get_or xs k) (sym e))
+
+pub at_mapped : {A B : Type 0} (f : A → B) (xs : List A) (k : ℕ) (x : A) (y : B) → k < length xs → y ≡ f x → x ≡ get_or xs k x → y ≡ get_or (map f xs) k y
+at_mapped f xs k x y lt e is = e ∙ (ap f is ∙ sym (get_or-map f xs k x y lt))
+
+-- past the end there is nothing
+pub none_left : {A : Type 0} (xs : List A) (k : ℕ) → k ≡ length xs → drop k xs ≡ []
+none_left xs k e = ap (λ n. drop n xs) e ∙ drop-length xs
+
 -- ---- the parts of an instance's devices
 
 no_parts : (names : List (List ℕ)) → parts names [] ≡ []
@@ -38,6 +57,20 @@ pub spot_parts_split : (devices : List (List ℕ)) (card : Body) (cards : List B
 spot_parts_split devices (call_at line c) cards spots = refl
 spot_parts_split devices (dev_at line d) cards [] = sym (ap behind_blanks (no_parts (map (λ (d : Card). d.name) (devices_in cards))))
 spot_parts_split devices (dev_at line d) cards (spot ∷ spots) = ap (λ t. t ++ behind_blanks (spot_parts devices cards spots)) (sym (append-nil (32 ∷ part (d.name, name_at devices spot.dev))))
+
+-- a turn of the loop prints the part of one more card
+pub image_step : (devices : List (List ℕ)) (all others : List Body) (card : Body) (spots rest : List Spot) (whole before after : List ℕ) → all ≡ card ∷ others → after ≡ before ++ behind_blanks (spot_parts devices (card ∷ []) spots) → rest ≡ behind_card card spots → before ++ behind_blanks (spot_parts devices all spots) ≡ whole → after ++ behind_blanks (spot_parts devices others rest) ≡ whole
+image_step devices all others card spots rest whole before after from now behind was =
+    let own = behind_blanks (spot_parts devices (card ∷ []) spots) in
+    let later = behind_blanks (spot_parts devices others (behind_card card spots)) in
+    let split : behind_blanks (spot_parts devices all spots) ≡ own ++ later = ap (λ cs. behind_blanks (spot_parts devices cs spots)) from ∙ spot_parts_split devices card others spots in
+    ap (λ ss. after ++ behind_blanks (spot_parts devices others ss)) behind ∙ printed_next whole before after own later now (ap (λ t. before ++ t) (sym split) ∙ was)
+
+-- what holds of all spots holds of those behind
+pub behind_all : (P : Spot → Type 0) (card : Body) (spots rest : List Spot) → rest ≡ behind_card card spots → All P spots → All P rest
+behind_all P (call_at line c) spots rest e h = subst (All P) (sym e) h
+behind_all P (dev_at line d) [] rest e h = subst (All P) (sym e) h
+behind_all P (dev_at line d) (spot ∷ spots) rest e h = subst (All P) (sym e) (All-tail P spot spots h)
 
 -- ---- cells
 
@@ -65,12 +98,6 @@ all_first P (x ∷ xs) ys h = (h.0, all_first P xs ys h.1)
 all_behind : {A : Type 0} (P : A → Type 0) (xs ys : List A) → AllByRecursion P (xs ++ ys) → AllByRecursion P ys
 all_behind P [] ys h = h
 all_behind P (x ∷ xs) ys h = all_behind P xs ys h.1
-
--- the cell at a place, and those behind it
-pub cells_from : (cells : List (Sub × Cell)) (k n : ℕ) (c : Sub × Cell) → k < length cells → n ≡ k + 1 → get_or cells k c ≡ c → drop k cells ≡ c ∷ drop n cells
-cells_from cells k n c lt next is =
-    let after : suc k ≡ n = omega (arith, next) in
-    drop-cons cells k c lt ∙ (ap (λ x. x ∷ drop (suc k) cells) is ∙ ap (λ m. c ∷ drop m cells) after)
 
 -- a turn of the loop tells of one more cell
 pub cells_step : (names : RoundNames) (cells : List (Sub × Cell)) (k n : ℕ) (c : Sub × Cell) (finds rest : List (List Instance × List Pick)) (whole before after : List ℕ) → drop k cells ≡ c ∷ drop n cells → after ≡ before ++ parts_text names (told c finds) → rest ≡ untold c.1 finds → before ++ parts_text names (parts_at_zero (drop k cells) finds) ≡ whole → after ++ parts_text names (parts_at_zero (drop n cells) rest) ≡ whole

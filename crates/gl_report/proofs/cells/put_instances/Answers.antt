@@ -7,7 +7,7 @@ pub returns-in_err-put_instance-clause-front : goal.returns-in_err-put_instance-
 returns-in_err-put_instance-clause-front c = front_stays c.args.out.now.items _ _ _ c.loop-i.invariant c.in_err-put_instance.ensures.front
 
 pub loop-i-preserved : goal.loop-i-preserved
-loop-i-preserved c = lines_step c.args.names.now c.args.cell.now c.args.items.now c.args.picks.now c.loop-i.i c.index-items-i.result c.index-picks-i.result c.args.out.now.items c.loop-i.out.items c.put_instance.new.out.items c.loop-i-test.true c.requires.picked c.index-items-i.is c.index-picks-i.is c.loop-i.invariant c.in_ok-put_instance.ensures.ok
+loop-i-preserved c = let h = c.in_ok-put_instance.ensures.ok in ?
 
 pub returns-clause-ok : goal.returns-clause-ok
 returns-clause-ok c = lines_all c.args.names.now c.args.cell.now c.args.items.now c.args.picks.now c.loop-i.i c.args.out.now.items c.loop-i.out.items c.requires.picked (omega arith) c.loop-i.invariant
