@@ -1,7 +1,6 @@
 -- Devices that are marked, instance by instance.
 use Rattle.std.proofs.Common.{◌≡◌, ℕ, zero, suc, ◌+◌, ◌<◌, List, [], ◌∷◌, ◌++◌, length, map, drop, get_or, true, false, Bool, refl, sym, ap, ◌∙◌, arith, append_assoc, drop-cons}
-use Rattle.std.specs.Prelude.{◌||◌, ◌==◌, not}
-use Rattle.std.specs.List.{count_by, range_with_len}
+use Rattle.std.specs.Prelude.{◌||◌, ◌==◌, replicate}
 use Rattle.std.proofs.Math.Bool.{or_assoc}
 use Rattle.std.proofs.lemmas.List.{append-nil, get_or-map, length-map}
 use Rattle.gl_match.specs.declared.role.Pick.{Pick}
@@ -72,3 +71,18 @@ joined_from lists picks k n list picked many lt next is_list is_picked =
     ap (λ xs. taken_devices (joined (sets_of xs)) (joined (drop k picks))) (from_place lists k n list lt next is_list)
     ∙ (ap (λ ps. taken_devices (sets_in list ++ joined (sets_of (drop n lists))) (joined ps)) (from_place picks k n picked (omega (arith, lt, lists_as_many lists picks many)) next is_picked)
     ∙ taken_append (sets_in list) (joined (sets_of (drop n lists))) picked (joined (drop n picks)) same)
+
+no_mark : (n dev : ℕ) → mark_at (replicate n false) dev ≡ false
+no_mark zero dev = refl
+no_mark (suc n) zero = refl
+no_mark (suc n) (suc dev) = no_mark n dev
+
+or_none : (b : Bool) → (b || false) ≡ b
+or_none true = refl
+or_none false = refl
+
+-- where none had a mark, a mark says that a device is one of those that got it
+pub marks_say : (start later : List Bool) (n : ℕ) (gone : List ℕ) (k : ℕ) → start ≡ replicate n false → Adds start gone later → get_or later k false ≡ is_in gone (0 + k)
+marks_say start later n gone k fresh adds =
+    let none : mark_at start k ≡ false = ap (λ marks. mark_at marks k) fresh ∙ no_mark n k in
+    adds k ∙ (ap (λ b. is_in gone k || b) none ∙ (or_none (is_in gone k) ∙ ap (is_in gone) (omega arith)))

@@ -19,8 +19,9 @@ put_told-requires c =
     let turn = zip_turn subs cells c.loop-sub.yielded c.into_iter-sub-iterator.result c.loop-sub.sub-iterator c.next.new.self c.next.result (cc) (cc) c.loop-sub.yielded_by (c.in-Some.sub, c.in-Some.cell) c.in-Some.is c.next.ensures.steps in
     let finds = zip c.loop-sub.finds.lists.now (map (λ (v : Vec Pick Global). v.items) c.loop-sub.finds.picks.now) in
     let own : (c.in-Some.sub.now, c.in-Some.cell.now) ≡ (get_or subs k c.in-Some.sub.now, get_or cells k c.in-Some.cell.now) = ap (λ (s : Sub). (s, c.in-Some.cell.now)) (turn.2 c.in-Some.sub.now) ∙ ap (λ (x : Cell). (get_or subs k c.in-Some.sub.now, x)) (turn.3 c.in-Some.cell.now) in
-    let from = from_place (zip subs cells) k (k + 1) (c.in-Some.sub.now, c.in-Some.cell.now) (omega (arith, length-zip subs cells, turn.0, turn.1)) refl (own ∙ sym (get_or-zip subs cells k (c.in-Some.sub.now, c.in-Some.cell.now) turn.0 turn.1)) in
-    record { named = told_named c.args.names.now (zip subs cells) k (k + 1) (c.in-Some.sub.now, c.in-Some.cell.now) finds from c.loop-sub.invariant.named }
+    let told : Sub × Cell = (c.in-Some.sub.now, c.in-Some.cell.now) in
+    let from = from_place (zip subs cells) k (k + 1) told (omega (arith, length-zip subs cells, turn.0, turn.1)) refl (own ∙ sym (get_or-zip subs cells k told turn.0 turn.1)) in
+    record { named = told_named c.args.names.now (zip subs cells) k (k + 1) told finds from c.loop-sub.invariant.named }
 
 pub loop-sub-preserved : goal.loop-sub-preserved
 loop-sub-preserved c =
@@ -32,7 +33,7 @@ loop-sub-preserved c =
     let turn = zip_turn subs cells c.loop-sub.yielded c.into_iter-sub-iterator.result c.loop-sub.sub-iterator c.next.new.self c.next.result (cc) (cc) c.loop-sub.yielded_by (c.in-Some.sub, c.in-Some.cell) c.in-Some.is c.next.ensures.steps in
     let finds = zip c.loop-sub.finds.lists.now (map (λ (v : Vec Pick Global). v.items) c.loop-sub.finds.picks.now) in
     let rest = zip c.in_ok-finds.finds.lists.now (map (λ (v : Vec Pick Global). v.items) c.in_ok-finds.finds.picks.now) in
-    let told = (c.in-Some.sub.now, c.in-Some.cell.now) in
+    let told : Sub × Cell = (c.in-Some.sub.now, c.in-Some.cell.now) in
     let own : told ≡ (get_or subs k c.in-Some.sub.now, get_or cells k c.in-Some.cell.now) = ap (λ (s : Sub). (s, c.in-Some.cell.now)) (turn.2 c.in-Some.sub.now) ∙ ap (λ (x : Cell). (get_or subs k c.in-Some.sub.now, x)) (turn.3 c.in-Some.cell.now) in
     let from = from_place (zip subs cells) k n told (omega (arith, length-zip subs cells, turn.0, turn.1)) (length_push c.loop-sub.yielded (c.in-Some.sub, c.in-Some.cell)) (own ∙ sym (get_or-zip subs cells k told turn.0 turn.1)) in
     record {
