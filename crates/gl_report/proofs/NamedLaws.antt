@@ -1,5 +1,5 @@
 -- What the instances of a complete list speak of has a name.
-use Rattle.std.proofs.Common.{◌≡◌, ◌<◌, ℕ, zero, suc, List, [], ◌∷◌, length, get_or, map, cond, eqb, Some, refl, sym, ap, ◌∙◌, subst, arith, inl, inr}
+use Rattle.std.proofs.Common.{◌≡◌, ◌<◌, ℕ, zero, suc, List, [], ◌∷◌, length, drop, get_or, map, cond, eqb, Some, refl, sym, ap, ◌∙◌, subst, arith, inl, inr}
 use Rattle.std.specs.Prelude.{All, slice_index, unwrap_or, slice_get}
 use Rattle.std.specs.List.{AllZip, zip}
 use Rattle.std.proofs.lemmas.Bool.{cases_Bool}
@@ -15,8 +15,15 @@ use Rattle.gl_match.specs.Listing.{Instance, IsInstance, Listed}
 use Rattle.gl_match.proofs.TurnLaws.{turn_is}
 use Rattle.gl_match.proofs.AtLaws.{get_any, turn_length, turn_below, at_from, spot_at}
 use Rattle.gl_graph.specs.Built.{IsBuilt, IsBuiltPattern}
-use Rattle.gl_base.specs.Reports.{ReportNames, IsNamed, IsReportable}
-use Rattle.gl_report.specs.Naming.{IsNaming}
+use Rattle.gl_match.specs.declared.role.Pick.{Pick}
+use Rattle.gl_match.specs.Choice.{sets_in, sets_of}
+use Rattle.gl_text.specs.Cards.{Device as Card}
+use Rattle.gl_text.specs.Decks.{Sub}
+use Rattle.gl_text.specs.OneCell.{devices_in}
+use Rattle.gl_base.specs.BaseCircuit.{Source, nets_of, net_number, device_of}
+use Rattle.gl_base.specs.Libraries.{Library}
+use Rattle.gl_base.specs.Rounds.{cells_at, searched, cell_pattern, IsRound}
+use Rattle.gl_report.specs.Naming.{RoundNames, IsNaming, IsNamed, IsReportable}
 
 -- each device of the circuit has a type's shape and nets of the circuit, and each port of the pattern stands on a device
 pub record IsWired (c : Circuit) (p : Pattern) : Type 0 where
@@ -108,23 +115,50 @@ some_net c p m net fits wired suit stands =
     let first : get_or image.nets 0 0 < c.nets = wired.nets spot.dev (record { kind = 0; nets = [] }) suits.device 0 0 many in
     omega (arith, first)
 
--- each instance of a complete list
-named : (c : Circuit) (p : Pattern) (names : ReportNames) (i : Instance) → FitsInto c p → IsWired c p → IsNaming names c p → IsInstance c p i → IsNamed names i
-named c p names i fits wired naming is =
+-- each instance of a cell's complete list
+named : (c : Circuit) (s : Source) (cell : Sub) (names : RoundNames) (i : Instance) → FitsInto c (cell_pattern s cell) → IsWired c (cell_pattern s cell) → IsNaming names c → IsInstance c (cell_pattern s cell) i → IsNamed names cell i
+named c s cell names i fits wired naming is =
+    let p = cell_pattern s cell in
+    let cards = devices_in cell.cards in
     let suit = is.legal.consistent.suit in
     let pairs = pairs_of c p.devices i.least in
     let binding : map (port_image pairs) p.ports ≡ i.key.binding = ap (λ (k : Key). k.binding) is.key_is in
+    let ports : length p.ports ≡ length cell.head.ports = length-map cell.head.ports (net_number (nets_of cards)) in
+    let devices : length p.devices ≡ length cards = length-map cards (device_of s (nets_of cards)) in
     let below : All (λ net. net < c.nets) (map (port_image pairs) p.ports) =
     All-map (λ net. net < c.nets) (port_image pairs) p.ports (λ k d lt. image_below c.nets pairs (get_or p.ports k d) (some_net c p i.least (get_or p.ports k d) fits wired suit (wired.ports k d lt)) (pairs_below c p p.devices i.least wired suit)) in
-    let nets : All (λ net. net < length names.nets) (map (port_image pairs) p.ports) = subst (λ n. All (λ net. net < n) (map (port_image pairs) p.ports)) (sym naming.nets) below in
+    let nets : All (λ net. net < length names.run.nets) (map (port_image pairs) p.ports) = subst (λ n. All (λ net. net < n) (map (port_image pairs) p.ports)) (sym naming.nets) below in
     record {
-      ports_bound = ap length (sym binding) ∙ (length-map p.ports (port_image pairs) ∙ sym naming.ports);
-      nets_named = subst (λ (bs : List ℕ). All (λ net. net < length names.nets) bs) binding nets;
-      devices_mapped = AllZip-long (Suits c) p.devices i.least suit ∙ sym naming.cell_devices;
+      ports_bound = ap length (sym binding) ∙ (length-map p.ports (port_image pairs) ∙ ports);
+      nets_named = subst (λ (bs : List ℕ). All (λ net. net < length names.run.nets) bs) binding nets;
+      devices_mapped = AllZip-long (Suits c) p.devices i.least suit ∙ devices;
       images_named = subst (λ n. All (λ (s : Spot). s.dev < n) i.least) (sym naming.devices) (spots_below c p.devices i.least suit);
     }
 
--- all instances of a complete list
-pub listed_named : (c : Circuit) (p : Pattern) (names : ReportNames) (items : List Instance) → IsBuilt c → IsBuiltPattern p → FitsInto c p → IsNaming names c p → Listed c p items → IsReportable names items
-listed_named c p names items circuit pattern fits naming listed =
-    record { all_named = All-weaker (IsInstance c p) (IsNamed names) (λ i is. named c p names i fits (built_wired c p circuit pattern) naming is) items listed.each }
+-- all instances of complete lists, cell by cell
+lists_named : (c : Circuit) (s : Source) (names : RoundNames) (cells : List Sub) (lists : List (List Instance)) → IsBuilt c → All IsBuiltPattern (map (cell_pattern s) cells) → All (FitsInto c) (map (cell_pattern s) cells) → IsNaming names c → AllZip (Listed c) (map (cell_pattern s) cells) lists → AllZip (λ cell items. All (IsNamed names cell) items) cells lists
+lists_named c s names [] [] circuit patterns fits naming h = tt
+lists_named c s names [] (list ∷ lists) circuit patterns fits naming h = absurd h
+lists_named c s names (cell ∷ cells) [] circuit patterns fits naming h = absurd h
+lists_named c s names (cell ∷ cells) (list ∷ lists) circuit patterns fits naming h =
+    let p = cell_pattern s cell in
+    let behind = map (cell_pattern s) cells in
+    let fit : FitsInto c p = All-head (FitsInto c) p behind fits in
+    let wired : IsWired c p = built_wired c p circuit (All-head IsBuiltPattern p behind patterns) in
+    (All-weaker (IsInstance c p) (IsNamed names cell) (λ i is. named c s cell names i fit wired naming is) list h.0.each,
+    lists_named c s names cells lists circuit (All-tail IsBuiltPattern p behind patterns) (All-tail (FitsInto c) p behind fits) naming h.1)
+
+-- as many picks as instances, list by list
+picks_fit : (lists : List (List Instance)) (picks : List (List Pick)) → map length picks ≡ map length (sets_of lists) → AllZip (λ (items : List Instance) (picked : List Pick). length picked ≡ length items) lists picks
+picks_fit [] [] e = tt
+picks_fit [] (picked ∷ picks) e = let more : suc (length (map length picks)) ≡ 0 = ap length e in absurd (omega (arith, more))
+picks_fit (list ∷ lists) [] e = let more : 0 ≡ suc (length (map length (sets_of lists))) = ap length e in absurd (omega (arith, more))
+picks_fit (list ∷ lists) (picked ∷ picks) e =
+    let first : length picked ≡ length (sets_in list) = ap (λ ns. get_or ns 0 0) e in
+    (first ∙ length-map list (λ i. i.key.set), picks_fit lists picks (ap (drop 1) e))
+
+pub round_reportable : (c : Circuit) (s : Source) (library : Library) (names : RoundNames) (first : ℕ) (lists : List (List Instance)) (picks : List (List Pick)) → IsBuilt c → All IsBuiltPattern (map (cell_pattern s) (searched (cells_at 0 library))) → All (FitsInto c) (map (cell_pattern s) (searched (cells_at 0 library))) → IsNaming names c → IsRound c first (map (cell_pattern s) (searched (cells_at 0 library))) lists picks → IsReportable names library lists picks
+round_reportable c s library names first lists picks circuit patterns fits naming round = record {
+  lists_named = lists_named c s names (searched (cells_at 0 library)) lists circuit patterns fits naming round.complete;
+  picks_fit = picks_fit lists picks round.choice.as_many;
+}

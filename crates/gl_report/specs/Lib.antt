@@ -1,2 +1,3 @@
-pub mod Pieces
 pub mod Naming
+pub mod Pieces
+pub mod Marks

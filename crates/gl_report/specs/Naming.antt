@@ -1,11 +1,39 @@
--- When names fit a circuit and a pattern.
-use Rattle.std.specs.Prelude.{◌≡◌, length}
-use Rattle.gl_match.specs.Graph.{Circuit, Pattern}
-use Rattle.gl_base.specs.Reports.{ReportNames}
+-- The names that the report of a first round prints, and when all that it speaks of has one. This project's own.
+use Rattle.std.specs.Prelude.{◌≡◌, ◌<◌, ℕ, List, length, All}
+use Rattle.std.specs.List.{AllZip, zip}
+use Rattle.gl_text.specs.Decks.{Sub}
+use Rattle.gl_text.specs.OneCell.{devices_in}
+use Rattle.gl_match.specs.declared.spot.Spot.{Spot}
+use Rattle.gl_match.specs.declared.role.Pick.{Pick}
+use Rattle.gl_match.specs.Graph.{Circuit}
+use Rattle.gl_match.specs.Listing.{Instance}
+use Rattle.gl_base.specs.Libraries.{Library}
+use Rattle.gl_base.specs.Rounds.{cells_at, searched}
+use Rattle.gl_base.specs.RoundReports.{RunNames, cell_parts, rounds_of, report_text}
 
--- there are as many names as ports, devices and nets
-pub record IsNaming (names : ReportNames) (c : Circuit) (p : Pattern) : Type 0 where
-  pub ports : length names.ports ≡ length p.ports
-  pub cell_devices : length names.cell_devices ≡ length p.devices
+-- the stem with the names of nets, and the names of the circuit's devices, by their numbers
+pub record RoundNames : Type 0 where
+  pub run : RunNames
+  pub devices : List (List ℕ)
+
+-- there are as many names as a circuit has devices and nets
+pub record IsNaming (names : RoundNames) (c : Circuit) : Type 0 where
   pub devices : length names.devices ≡ length c.devices
-  pub nets : length names.nets ≡ c.nets
+  pub nets : length names.run.nets ≡ c.nets
+
+-- the instance binds each port of the cell to a net that has a name, and takes each device of the cell to a device that has one
+pub record IsNamed (names : RoundNames) (cell : Sub) (i : Instance) : Type 0 where
+  pub ports_bound : length i.key.binding ≡ length cell.head.ports
+  pub nets_named : All (λ net. net < length names.run.nets) i.key.binding
+  pub devices_mapped : length i.least ≡ length (devices_in cell.cards)
+  pub images_named : All (λ (s : Spot). s.dev < length names.devices) i.least
+
+-- there is a list for each searched cell of level 0, whose instances are named, and a pick for each instance
+pub record IsReportable (names : RoundNames) (library : Library) (lists : List (List Instance)) (picks : List (List Pick)) : Type 0 where
+  pub lists_named : AllZip (λ cell items. All (IsNamed names cell) items) (searched (cells_at 0 library)) lists
+  pub picks_fit : AllZip (λ (items : List Instance) (picked : List Pick). length picked ≡ length items) lists picks
+
+-- the report where the first round is the only one
+abbrev pub first_report : RoundNames → Library → List (List Instance) → List (List Pick) → ℕ → List ℕ
+first_report names library lists picks left =
+    report_text names.run (rounds_of library.cells (record { devices = names.devices; cells = cell_parts (cells_at 0 library) (zip lists picks) })) left

@@ -1,22 +1,27 @@
-ghost use Rattle.std.specs.Prelude.{◌≡◌, ◌∷◌, ◌++◌, [], OnOk, take, length};
-ghost use Rattle.gl_match.specs.Listing.{Instance as Item};
-ghost use Rattle.gl_base.specs.Reports.{line, cell_words, early_instance_words, IsNamed};
+ghost use Rattle.std.specs.Prelude.{◌≡◌, ◌∷◌, ◌++◌, [], OnOk, take, length, codes};
+ghost use Rattle.std.specs.Fmt.{decimal};
+ghost use Rattle.std.specs.List.{join_with_byte};
+ghost use Rattle.gl_base.specs.Reports.{line, cell_words};
+ghost use Rattle.gl_base.specs.RoundReports.{found_words, reason_words};
+ghost use Rattle.gl_cells.specs.Skips.{skip_value};
+ghost use Rattle.gl_report.specs.Naming.{IsNamed};
 
 use crate::Names;
 use crate::parts::{put_images, put_ports};
-use crate::words::{put, put_number};
+use crate::words::{put, put_fate, put_number, put_reason};
+use gl_cells::Skip;
+use gl_deck::Sub;
 use gl_legal::Instance;
-use gl_match::Memory;
+use gl_match::{Memory, Pick};
 
-/// Appends the line of the cell: how many ports it has, and how many instances.
-pub fn put_cell(
+/// Appends the name of a searched cell, how many ports it has, and how many instances.
+fn put_counts(
     out: &mut Vec<u8>,
     name: &[u8],
     ports: usize,
     instances: usize,
 ) -> Result<(), Memory>
-    ensures ok { OnOk result
-        (out.new.items ≡ out.old.items ++ line (cell_words name.now ports instances)) }
+    ensures ok { OnOk result (out.new.items ≡ out.old.items ++ join_with_byte 32 (cell_words name.now ports instances)) }
     ensures front { take (length out.old.items) out.new.items ≡ out.old.items }
 {
     put(out, b"cell ")?;
@@ -24,26 +29,59 @@ pub fn put_cell(
     put(out, b" ports ")?;
     put_number(out, ports)?;
     put(out, b" instances ")?;
-    put_number(out, instances)?;
+    put_number(out, instances)
+}
+
+/// Appends the line of a searched cell: how many ports it has, how many instances, and how many of them are chosen.
+pub fn put_cell(
+    out: &mut Vec<u8>,
+    name: &[u8],
+    ports: usize,
+    instances: usize,
+    chosen: usize,
+) -> Result<(), Memory>
+    ensures ok { OnOk result (out.new.items ≡ out.old.items
+        ++ line (cell_words name.now ports instances ++ codes "chosen" ∷ decimal chosen ∷ [])) }
+    ensures front { take (length out.old.items) out.new.items ≡ out.old.items }
+{
+    put_counts(out, name, ports, instances)?;
+    put(out, b" chosen ")?;
+    put_number(out, chosen)?;
     put(out, b"\n")
 }
 
-/// Appends the line of the instance with this number.
+/// Appends the line of a skipped cell.
+pub fn put_skipped(out: &mut Vec<u8>, name: &[u8], skip: &Skip) -> Result<(), Memory>
+    ensures ok { OnOk result (out.new.items ≡ out.old.items
+        ++ line (codes "cell" ∷ name.now ∷ codes "skipped" ∷ reason_words (skip_value skip.now))) }
+    ensures front { take (length out.old.items) out.new.items ≡ out.old.items }
+{
+    put(out, b"cell ")?;
+    put(out, name)?;
+    put(out, b" skipped")?;
+    put_reason(out, skip)?;
+    put(out, b"\n")
+}
+
+/// Appends the line of an instance of a cell, with its number and its pick.
 pub fn put_instance(
     out: &mut Vec<u8>,
     names: &Names<'_>,
+    cell: &Sub,
     number: usize,
     item: &Instance,
+    pick: Pick,
 ) -> Result<(), Memory>
-    requires named { IsNamed names.now item.now }
-    ensures ok { OnOk result
-        (out.new.items ≡ out.old.items ++ line (early_instance_words names.now (number, item.now))) }
+    requires named { IsNamed names.now cell.now item.now }
+    ensures ok { OnOk result (out.new.items ≡ out.old.items
+        ++ line (found_words names.now.run names.now.devices cell.now (number, (item.now, pick)))) }
     ensures front { take (length out.old.items) out.new.items ≡ out.old.items }
 {
     let key = &item.key;
     put_number(out, number)?;
-    put_ports(out, names.head.ports(), names.nets, &key.binding)?;
+    put_fate(out, names.stem, pick)?;
+    put_ports(out, cell.head().ports(), names.flat.nets(), &key.binding)?;
     put(out, b" |")?;
-    put_images(out, names.cell_devices, names.devices, &item.least)?;
+    put_images(out, cell.cards(), names.flat.devices(), &item.least)?;
     put(out, b"\n")
 }

@@ -1,32 +1,24 @@
-use gl_card::{DevCard, Head};
-use gl_line::Name;
+use gl_flat::Flat;
 use std::marker::Model;
 
-/// The names that a report prints, borrowed. Contracts see the lists of the names.
+/// The names that a report prints, borrowed. Contracts see the stem, and the names of nets and devices by their numbers.
 #[derive(Debug, Drop)]
 pub struct Names<'a> {
-    /// The name and the ports of the cell.
-    pub head: &'a Head,
-    /// The devices of the cell, in its order.
-    pub cell_devices: &'a [DevCard],
-    /// The devices of the circuit, by their numbers.
-    pub devices: &'a [DevCard],
-    /// The names of the circuit's nets, by their numbers.
-    pub nets: &'a [Name],
+    /// The stem of the names of chosen instances.
+    pub stem: &'a [u8],
+    /// The flat deck, whose nets and devices are those of the circuit.
+    pub flat: &'a Flat,
 }
 
 impl<'a> Model for Names<'a> {
     ghost use Rattle.std.specs.Prelude.{map};
-    ghost use Rattle.gl_text.specs.Cards.{Device};
-    ghost use Rattle.gl_base.specs.Reports.{ReportNames};
+    ghost use Rattle.gl_flat.specs.Numbered.{NumberedDevice};
+    ghost use Rattle.gl_report.specs.Naming.{RoundNames};
 
-    ghost Value = { ReportNames };
+    ghost Value = { RoundNames };
 
     ghost view = { λ n. record {
-      cell = n.head.now.name;
-      ports = n.head.now.ports;
-      cell_devices = map (λ (d : Device). d.name) n.cell_devices.now;
-      devices = map (λ (d : Device). d.name) n.devices.now;
-      nets = n.nets.now;
+      run = record { stem = n.stem.now; nets = n.flat.now.nets };
+      devices = map (λ (d : NumberedDevice). d.name) n.flat.now.devices;
     } };
 }

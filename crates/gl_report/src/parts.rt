@@ -1,11 +1,13 @@
-ghost use Rattle.std.specs.Prelude.{◌≡◌, ◌<◌, ◌++◌, OnOk, take, length, map, All};
+ghost use Rattle.std.specs.Prelude.{◌≡◌, ◌<◌, ◌∷◌, ◌++◌, [], OnOk, IfOk, take, length, map, All};
 ghost use Rattle.gl_match.specs.declared.spot.Spot.{Spot as SpotValue};
-ghost use Rattle.gl_text.specs.Cards.{Device};
 ghost use Rattle.gl_base.specs.Reports.{name_at, parts};
-ghost use Rattle.gl_report.specs.Pieces.{behind_blanks};
+ghost use Rattle.gl_deck.specs.Bodies.{body_value, bodies_value};
+ghost use Rattle.gl_flat.specs.Numbered.{NumberedDevice};
+ghost use Rattle.gl_report.specs.Pieces.{behind_blanks, spot_parts, behind_card};
 
 use crate::words::put_part;
-use gl_card::DevCard;
+use gl_deck::Body;
+use gl_flat::FlatDevice;
 use gl_line::Name;
 use gl_match::{Memory, NetId, Spot};
 
@@ -28,24 +30,48 @@ pub fn put_ports(
     Ok(())
 }
 
-/// Appends a part for each device of the cell, with its image.
-pub fn put_images(
+/// Appends the part of a card if it is a device's, with the image by the first spot. The spots behind it are given.
+fn put_image<'a>(
     out: &mut Vec<u8>,
-    cell_devices: &[DevCard],
-    devices: &[DevCard],
-    least: &[Spot],
-) -> Result<(), Memory>
-    requires mapped { length least.now ≡ length cell_devices.now }
-    requires named { All (λ (s : SpotValue). s.dev < length devices.now) least.now }
-    ensures ok { OnOk result (out.new.items ≡ out.old.items ++ behind_blanks (parts
-        (map (λ (d : Device). d.name) cell_devices.now)
-        (map (λ (s : SpotValue). name_at (map (λ (d : Device). d.name) devices.now) s.dev) least.now))) }
+    card: &Body,
+    devices: &[FlatDevice],
+    spots: &'a [Spot],
+) -> Result<&'a [Spot], Memory>
+    requires named { All (λ (s : SpotValue). s.dev < length devices.now) spots.now }
+    ensures ok { OnOk result (out.new.items ≡ out.old.items ++ behind_blanks
+        (spot_parts (map (λ (d : NumberedDevice). d.name) devices.now) (body_value card.now ∷ []) spots.now)) }
+    ensures behind { IfOk result (λ rest. rest.now ≡ behind_card (body_value card.now) spots.now) }
     ensures front { take (length out.old.items) out.new.items ≡ out.old.items }
 {
-    for (device, spot) in cell_devices.iter().zip(least) {
-        let dev = spot.dev;
-        let image = &devices[dev.0 as usize];
-        put_part(out, device.name().as_bytes(), image.name().as_bytes())?;
+    match card {
+        Body::Call(_, _) => Ok(spots),
+        Body::Dev(_, device) => {
+            let [spot, behind @ ..] = spots else {
+                return Ok(spots);
+            };
+            let dev = spot.dev;
+            let image = &devices[dev.0 as usize];
+            put_part(out, device.name().as_bytes(), image.name().as_bytes())?;
+            Ok(behind)
+        }
+    }
+}
+
+/// Appends a part for each device card of a cell, with its image.
+pub fn put_images(
+    out: &mut Vec<u8>,
+    cards: &[Body],
+    devices: &[FlatDevice],
+    least: &[Spot],
+) -> Result<(), Memory>
+    requires named { All (λ (s : SpotValue). s.dev < length devices.now) least.now }
+    ensures ok { OnOk result (out.new.items ≡ out.old.items ++ behind_blanks
+        (spot_parts (map (λ (d : NumberedDevice). d.name) devices.now) (bodies_value cards.now) least.now)) }
+    ensures front { take (length out.old.items) out.new.items ≡ out.old.items }
+{
+    let mut spots = least;
+    for card in cards {
+        spots = put_image(out, card, devices, spots)?;
     }
     Ok(())
 }

@@ -1,8 +1,12 @@
 ghost use Rattle.std.specs.Prelude.{◌≡◌, ◌∷◌, ◌++◌, [], OnOk, take, length, codes};
 ghost use Rattle.std.specs.Fmt.{decimal};
 ghost use Rattle.gl_base.specs.Reports.{part};
+ghost use Rattle.gl_base.specs.RoundReports.{fate_words, reason_words};
+ghost use Rattle.gl_cells.specs.Skips.{skip_value};
+ghost use Rattle.gl_report.specs.Pieces.{behind_blanks};
 
-use gl_match::Memory;
+use gl_cells::Skip;
+use gl_match::{Memory, Pick};
 use itoa::Buffer;
 
 /// Appends bytes. What stood before stays, also where no memory is found.
@@ -31,4 +35,41 @@ pub fn put_part(out: &mut Vec<u8>, name: &[u8], image: &[u8]) -> Result<(), Memo
     put(out, name)?;
     put(out, b"=")?;
     put(out, image)
+}
+
+/// Appends what became of an instance: a blank, `over` and a blank if it is not chosen, and the name of the chosen one.
+pub fn put_fate(out: &mut Vec<u8>, stem: &[u8], pick: Pick) -> Result<(), Memory>
+    ensures ok { OnOk result (out.new.items ≡ out.old.items ++ behind_blanks (fate_words stem.now pick)) }
+    ensures front { take (length out.old.items) out.new.items ≡ out.old.items }
+{
+    match pick {
+        Pick::Taken(number) => {
+            put(out, b" ")?;
+            put(out, stem)?;
+            put_number(out, number as usize)
+        }
+        Pick::Over(number) => {
+            put(out, b" over ")?;
+            put(out, stem)?;
+            put_number(out, number as usize)
+        }
+    }
+}
+
+/// Appends why a cell was skipped, each word behind a blank.
+pub fn put_reason(out: &mut Vec<u8>, skip: &Skip) -> Result<(), Memory>
+    ensures ok { OnOk result (out.new.items ≡ out.old.items ++ behind_blanks (reason_words (skip_value skip.now))) }
+    ensures front { take (length out.old.items) out.new.items ≡ out.old.items }
+{
+    match skip {
+        Skip::Empty => put(out, b" empty"),
+        Skip::Loose(port) => {
+            put(out, b" loose ")?;
+            put(out, port.as_bytes())
+        }
+        Skip::Uses(cell) => {
+            put(out, b" uses ")?;
+            put(out, cell.as_bytes())
+        }
+    }
 }

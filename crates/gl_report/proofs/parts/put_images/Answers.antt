@@ -1,40 +1,19 @@
-use Rattle.std.proofs.Common.{◌≡◌, ◌∙◌, [], ◌∷◌, ◌++◌, length, map, get_or, sym, ap, arith}
-use Rattle.std.proofs.lemmas.List.{length_push, get_or-map, length-map}
-use Rattle.std.proofs.lemmas.Slice.Zip.{zip_turn, zip_end}
+use Rattle.std.proofs.Common.{◌≡◌, ◌<◌, ◌+◌, ◌∷◌, drop, length, map, refl, ap}
 use Rattle.gl_match.specs.declared.spot.Spot.{Spot as SpotValue}
-use Rattle.gl_text.specs.Cards.{Device}
-use Rattle.gl_base.specs.Reports.{name_at}
-use Rattle.gl_report.proofs.PartLaws.{parts_step, parts_all, front_stays}
+use Rattle.gl_deck.specs.Bodies.{body_value, bodies_value}
+use Rattle.gl_flat.specs.Numbered.{NumberedDevice}
+use Rattle.gl_report.proofs.RestLaws.{from_place, image_step, behind_all, front_on}
 use Rattle.gl_report.proofs.parts.put_images.Goals as goal
 
-pub loop-device-preserved : goal.loop-device-preserved
-loop-device-preserved c =
-    let cell = c.args.cell_devices.now in
-    let devices = c.args.devices.now in
-    let least = c.args.least.now in
-    let k = length c.loop-device.yielded in
-    let turn = zip_turn cell least c.loop-device.yielded c.into_iter-device-iterator.result c.loop-device.device-iterator c.next.new.self c.next.result (cc) (cc) c.loop-device.yielded_by (c.in-Some.device, c.in-Some.spot) c.in-Some.is c.next.ensures.steps in
-    let names = map (λ (d : Device). d.name) cell in
-    let image_of = λ (s : SpotValue). name_at (map (λ (d : Device). d.name) devices) s.dev in
-    let at = get_or least k c.in-Some.spot.now in
-    let device = c.index-devices-dev.result in
-    let number : c.dev.inside.0 ≡ at.dev = c.dev.view_is ∙ ap (λ (s : SpotValue). s.dev) (turn.3 c.in-Some.spot.now) in
-    let read : device ≡ get_or devices at.dev device = c.index-devices-dev.is ∙ ap (λ i. get_or devices i device) number in
-    let image : device.name ≡ image_of at = ap (λ (d : Device). d.name) read ∙ sym (get_or-map (λ (d : Device). d.name) devices at.dev device [] (c.requires.named k c.in-Some.spot.now turn.1)) in
-    let name : c.as_bytes.result.now ≡ get_or names k [] = c.as_bytes.ensures.bytes ∙ (c.name.ensures.name ∙ (ap (λ (d : Device). d.name) (turn.2 c.in-Some.device.now) ∙ sym (get_or-map (λ (d : Device). d.name) cell k c.in-Some.device.now [] turn.0))) in
-    parts_step names (map image_of least) k (length (c.loop-device.yielded ++ (c.in-Some.device, c.in-Some.spot) ∷ [])) c.args.out.now.items c.loop-device.out.items c.put_part.new.out.items c.as_bytes.result.now c.as_bytes-in-loop-device.result.now
-    (omega (arith, length-map cell (λ (d : Device). d.name), turn.0)) (omega (arith, length-map least image_of, turn.1)) (length_push c.loop-device.yielded (c.in-Some.device, c.in-Some.spot)) name
-    (c.as_bytes-in-loop-device.ensures.bytes ∙ (c.name-in-loop-device.ensures.name ∙ (image ∙ sym (get_or-map image_of least k c.in-Some.spot.now [] turn.1)))) c.loop-device.invariant c.in_ok-put_part.ensures.ok
-
-pub returns-in_err-put_part-clause-front : goal.returns-in_err-put_part-clause-front
-returns-in_err-put_part-clause-front c = front_stays c.args.out.now.items _ _ _ c.loop-device.invariant c.in_err-put_part.ensures.front
-
-pub returns-clause-ok : goal.returns-clause-ok
-returns-clause-ok c =
-    let cell = c.args.cell_devices.now in
-    let least = c.args.least.now in
-    let names = map (λ (d : Device). d.name) cell in
-    let image_of = λ (s : SpotValue). name_at (map (λ (d : Device). d.name) c.args.devices.now) s.dev in
-    let all = zip_end cell least c.loop-device.yielded c.into_iter-device-iterator.result c.loop-device.device-iterator c.next.new.self c.next.result (cc) (cc) c.loop-device.yielded_by c.in-None.is c.next.ensures.steps in
-    let as_many : length (map image_of least) ≡ length names = omega (arith, length-map least image_of, length-map cell (λ (d : Device). d.name), c.requires.mapped) in
-    parts_all names (map image_of least) (length c.loop-device.yielded) c.args.out.now.items c.loop-device.out.items as_many (omega (arith, all, c.requires.mapped, length-map cell (λ (d : Device). d.name))) c.loop-device.invariant
+pub loop-card-preserved : goal.loop-card-preserved
+loop-card-preserved c =
+    let k = c.loop-card.card-index in
+    let cards = c.args.cards.now in
+    let card = c.card-item.result in
+    let names = map (λ (d : NumberedDevice). d.name) c.args.devices.now in
+    let from : bodies_value (drop k cards) ≡ body_value card ∷ bodies_value (drop (k + 1) cards) = ap bodies_value (from_place cards k (k + 1) card c.loop-card-test.true refl c.card-item.is) in
+    record {
+      text = image_step names (bodies_value (drop k cards)) (bodies_value (drop (k + 1) cards)) (body_value card) c.loop-card.spots.now c.in_ok-spots.spots.now _ c.loop-card.out.items c.put_image.new.out.items from c.in_ok-spots.ensures.ok c.in_ok-spots.ensures.behind c.loop-card.invariant.text;
+      named = behind_all (λ (s : SpotValue). s.dev < length c.args.devices.now) (body_value card) c.loop-card.spots.now c.in_ok-spots.spots.now c.in_ok-spots.ensures.behind c.loop-card.invariant.named;
+      front = front_on c.args.out.now.items c.loop-card.out.items c.put_image.new.out.items c.loop-card.invariant.front c.in_ok-spots.ensures.front;
+    }

@@ -1,0 +1,2 @@
+pub mod FlatNames
+pub mod Needed

@@ -1,0 +1,66 @@
+ghost use Rattle.std.specs.Prelude.{◌≡◌, ◌≤◌, max, length};
+ghost use Rattle.gl_flat.specs.Numbered.{NumberedDevice};
+ghost use Rattle.gl_name.specs.Needed.{underscores, needed_at, needed, needed_by};
+ghost use Rattle.gl_name.specs.FlatNames.{device_names};
+
+use gl_flat::{FlatDevice, Name};
+
+/// How many underscores the bytes begin with.
+fn underscores_at(bytes: &[u8]) -> usize
+    ensures count { result ≡ underscores bytes.now }
+    ensures bound { result ≤ length bytes.now }
+{
+    let mut count: usize = 0;
+    for byte in bytes {
+        if *byte != b'_' {
+            return count;
+        }
+        count += 1;
+    }
+    count
+}
+
+/// How many underscores a stem needs beside an `xg` that the bytes begin with.
+fn needed_here(bytes: &[u8]) -> usize
+    ensures needed { result ≡ needed_at bytes.now }
+{
+    match bytes {
+        [b'x', b'g', behind @ ..] => underscores_at(behind) + 1,
+        _ => 0,
+    }
+}
+
+/// How many underscores a stem needs, so that it does not stand in the bytes.
+fn needed_in(bytes: &[u8]) -> usize
+    ensures needed { result ≡ needed bytes.now }
+{
+    let mut most: usize = 0;
+    let mut rest = bytes;
+    while let [_, behind @ ..] = rest {
+        most = most.max(needed_here(rest));
+        rest = behind;
+    }
+    most
+}
+
+/// How many underscores a stem needs beside names, where other names need so many.
+pub fn needed_by_names(most: usize, names: &[Name]) -> usize
+    ensures needed { result ≡ max most (needed_by names.now) }
+{
+    let mut count = most;
+    for name in names {
+        count = count.max(needed_in(name.as_bytes()));
+    }
+    count
+}
+
+/// The same for the names of devices.
+pub fn needed_by_devices(most: usize, devices: &[FlatDevice]) -> usize
+    ensures needed { result ≡ max most (needed_by (device_names devices.now)) }
+{
+    let mut count = most;
+    for device in devices {
+        count = count.max(needed_in(device.name().as_bytes()));
+    }
+    count
+}
