@@ -3,8 +3,6 @@
 
 mod laws;
 mod report;
-#[cfg(test)]
-mod tests;
 
 pub use gl_cells::{Deck, LibFault, Library};
 pub use gl_flat::FlatFault;
