@@ -1,9 +1,9 @@
 -- Texts that are given one after another, the last perhaps in part.
 use Rattle.std.proofs.Common.{◌≡◌, ◌+◌, ◌<◌, ◌≤◌, ◌++◌, ℕ, List, [], Option, None, Some, refl, ap, sym, ◌∙◌, arith, take, length, append_assoc, length-append, inl, inr, subst}
 use Rattle.std.specs.Option.{option_map}
-use Rattle.std.specs.Prelude.{Result, Ok, Err, OnErr}
+use Rattle.std.specs.Prelude.{Result, Ok, Err, OnErr, codes, decimal}
 use Rattle.std.proofs.Math.Seq.{take-append-add}
-use Rattle.std.proofs.lemmas.List.{take-append-le}
+use Rattle.std.proofs.lemmas.List.{append-nil, take-append-le}
 use Rattle.gl_run.specs.Saying.{GivesOrFails}
 use Rattle.gl_desk.specs.Desk.{View, Gives, GivesFront, HasRisen}
 
@@ -57,3 +57,7 @@ same_said a b x y e h = subst (GivesOrFails a b) e h
 pub on_err : {A E : Type 0} {P : Type 0} (r : Result A E) → P → OnErr r P
 on_err (Ok x) p = tt
 on_err (Err e) p = p
+
+-- a number with nothing behind it
+pub said_number : (a b : View) (front : List ℕ) (n : ℕ) → GivesOrFails a b (front ++ decimal n ++ codes "\n") → GivesOrFails a b (front ++ (decimal n ++ []) ++ codes "\n")
+said_number a b front n h = subst (λ (t : List ℕ). GivesOrFails a b (front ++ t ++ codes "\n")) (sym (append-nil (decimal n))) h

@@ -1,4 +1,3 @@
 pub mod Fronts
 pub mod Told
-pub mod Reported
-pub mod Flattened
+pub mod Complete

@@ -1,11 +1,6 @@
 -- What is told of bytes.
 use Rattle.std.proofs.Common.{◌≡◌, ℕ, Option, None, Some, subst, sym, refl}
 use Rattle.std.specs.Prelude.{IfSome, IsOk, Result, Ok, Err}
-use Rattle.gl_text.specs.OneCell.{Cause}
-use Rattle.gl_taken.specs.declared.refusal.Refusal.{Refusal}
-use Rattle.gl_taken.specs.declared.fault.TakenFault.{TakenFault}
-use Rattle.gl_taken.specs.declared.fault.TakenFault.TheVariants.{Refused}
-use Rattle.gl_taken.specs.Causes.{Takes, cause_of}
 
 -- what holds of a value holds of what is told, where this is the value
 pub told_as : {X : Type 0} (o : Option X) (x : X) (P : X → Type 0) → IfSome o (λ y. x ≡ y) → P x → IfSome o P
@@ -13,9 +8,5 @@ told_as None x P same holds = tt
 told_as (Some y) x P same holds = subst P same holds
 
 -- a result that is this value is no refusal
-pub is_ok_as : {X : Type 0} (r : Result X Cause) (x : X) → r ≡ Ok x → IsOk r
+pub is_ok_as : {X E : Type 0} (r : Result X E) (x : X) → r ≡ Ok x → IsOk r
 is_ok_as r x e = subst IsOk (sym e) refl
-
--- a refusal that was given is the wanted one
-pub refused_as : {X : Type 0} (r : Result X TakenFault) (wanted : Result X Cause) (refusal : Refusal) → r ≡ Err (Refused refusal) → Takes r wanted → wanted ≡ Err (cause_of refusal)
-refused_as {X} r wanted refusal e h = subst (λ (x : Result X TakenFault). Takes x wanted) e h

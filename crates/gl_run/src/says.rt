@@ -4,6 +4,7 @@ ghost use Rattle.gl_run.specs.Messages.{slot_name};
 ghost use Rattle.gl_run.specs.Parts.{field_part, numbers_of};
 ghost use Rattle.gl_run.specs.RefusalTexts.{fault_text};
 ghost use Rattle.gl_run.specs.Refusals.{read_fault, flat_fault};
+ghost use Rattle.gl_flat.specs.Refusals.{too_many};
 ghost use Rattle.gl_run.specs.Saying.{GivesOrFails, Speaks};
 
 use crate::ending::Ending;
@@ -177,6 +178,29 @@ pub fn say_number<D: Desk>(desk: &mut D, front: &str, number: u32)
     say_texts(desk, front, buffer.format(number).as_bytes(), "\n");
 }
 
+/// Says that there is too much of something. It takes no memory.
+fn say_too_many<D: Desk>(desk: &mut D, what: What, number: u32)
+    requires says { (D.shows desk.old Slot.Says).used ≡ true }
+    ensures given { GivesOrFails (D.shows desk.old Slot.Says) (D.shows desk.new Slot.Says) (codes "gatelift: 2 deck: " ++ fault_text (too_many what number) ++ codes "\n") }
+    ensures others { OthersSame D.shows desk.old desk.new Slot.Says }
+    ensures names { NamesSame D.held D.wants desk.old desk.new }
+{
+    match what {
+        What::Cards => say_number(
+            desk,
+            "gatelift: 2 deck: 22 TooMany what=Cards number=",
+            number,
+        ),
+        What::Devices => {
+            say_number(
+                desk,
+                "gatelift: 2 deck: 22 TooMany what=Devices number=",
+                number,
+            )
+        }
+    }
+}
+
 /// Says that a deck is refused as it is flattened. It takes no memory.
 fn say_flat<D: Desk>(desk: &mut D, refusal: &FlatRefusal)
     requires says { (D.shows desk.old Slot.Says).used ≡ true }
@@ -191,14 +215,7 @@ fn say_flat<D: Desk>(desk: &mut D, refusal: &FlatRefusal)
         FlatRefusal::LongFlatName { len } => {
             say_number(desk, "gatelift: 2 deck: 21 LongFlatName len=", *len)
         }
-        FlatRefusal::TooMany {
-            what: What::Cards,
-            number,
-        } => say_number(desk, "gatelift: 2 deck: 22 TooMany what=Cards number=", *number),
-        FlatRefusal::TooMany {
-            what: What::Devices,
-            number,
-        } => say_number(desk, "gatelift: 2 deck: 22 TooMany what=Devices number=", *number),
+        FlatRefusal::TooMany { what, number } => say_too_many(desk, *what, *number),
         FlatRefusal::TooDeep { number } => {
             say_number(desk, "gatelift: 2 deck: 23 TooDeep number=", *number)
         }

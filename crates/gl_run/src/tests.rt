@@ -318,7 +318,12 @@ fn other_words(rt: HostRuntime) -> Result<(), Memory> {
 fn faulty(alloc: Global, kind: CallKind, number: u32) -> Result<Vec<u8>, Memory> {
     let mut desk = desk_of(alloc, "m1 out in vdd vdd pch\nm2 out in 0 0 nch\n", INV)?;
     desk.fail(kind, number)?;
-    answer(alloc, desk, Slot::Report, "lift deck library lifted map report")
+    answer(
+        alloc,
+        desk,
+        Slot::Report,
+        "lift deck library lifted map report",
+    )
 }
 
 #[test]

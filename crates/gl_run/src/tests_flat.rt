@@ -146,7 +146,9 @@ fn doubling_deck(alloc: Global, last: u32) -> Result<String, Memory> {
 fn doubling_decks(rt: HostRuntime) -> Result<(), Memory> {
     let alloc = rt.alloc();
     let many = flattened(alloc, doubling_deck(alloc, 31)?.as_str())?;
-    assert!(rt; many.as_slice() == refused(alloc, "22 TooMany what=Cards number=400001")?.as_bytes());
+    assert!(rt;
+        many.as_slice() == refused(alloc, "22 TooMany what=Cards number=400001")?.as_bytes()
+    );
     let deep = flattened(alloc, doubling_deck(alloc, 32)?.as_str())?;
     assert!(rt; deep.as_slice() == refused(alloc, "23 TooDeep number=33")?.as_bytes());
     Ok(())

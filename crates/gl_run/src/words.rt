@@ -41,13 +41,15 @@ pub fn job_of(words: &[String]) -> Option<Job<'_>>
     ensures names { option_map names_of result ≡ job_named (map string_bytes words.now) }
 {
     match words {
-        [job, deck, library, lifted, map, report] if job.as_str() == "lift" => Some(Job::Lift(Lift {
-            deck: deck.as_str(),
-            library: library.as_str(),
-            lifted: lifted.as_str(),
-            map: map.as_str(),
-            report: report.as_str(),
-        })),
+        [job, deck, library, lifted, map, report] if job.as_str() == "lift" => Some(Job::Lift(
+            Lift {
+                deck: deck.as_str(),
+                library: library.as_str(),
+                lifted: lifted.as_str(),
+                map: map.as_str(),
+                report: report.as_str(),
+            },
+        )),
         [job, deck, out] if job.as_str() == "flat" => Some(Job::Flat(Flat {
             deck: deck.as_str(),
             out: out.as_str(),
