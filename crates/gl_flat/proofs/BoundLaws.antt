@@ -1,11 +1,10 @@
 -- What a bound on the flat text bounds: flat names, and how many nets there are.
-use Rattle.std.proofs.Common.{◌≡◌, ◌<◌, ◌≤◌, ◌+◌, ◌^◌, ℕ, List, [], ◌∷◌, ◌++◌, length, Bool, true, false, cond, not, Option, Some, None, refl, sym, ap, ◌∙◌, subst, map, filter, flat_map, arith, length-append}
+use Rattle.std.proofs.Common.{◌<◌, ◌≤◌, ◌+◌, ◌^◌, ℕ, List, [], ◌∷◌, ◌++◌, length, Bool, true, false, cond, not, Option, Some, None, ap, map, filter, flat_map, arith, length-append}
 use Rattle.std.specs.Prelude.{option_to_list}
-use Rattle.std.specs.List.{AllByRecursion}
 use Rattle.gl_text.specs.LogicalLines.{same_text}
 use Rattle.gl_text.specs.Cards.{Head, spaced, subckt, ends, ended}
 use Rattle.gl_text.specs.Decks.{line_of, once}
-use Rattle.gl_text.specs.Flattening.{TEXT, Net, FlatDevice, Flat, Bearer, device, net, net_name, device_name, bearers, bearer_name, around, flat_text}
+use Rattle.gl_text.specs.Flattening.{TEXT, Net, FlatDevice, Flat, net, net_name, device_name, bearers, bearer_name, around, flat_text}
 use Rattle.gl_card.specs.Lines.{spaced_all}
 use Rattle.gl_printed.proofs.Each.{each_append}
 use Rattle.gl_flat.specs.Lengths.{flat_line}

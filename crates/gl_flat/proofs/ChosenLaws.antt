@@ -1,8 +1,7 @@
 -- What is flattened: the cards outside subcircuits, or a subcircuit.
-use Rattle.std.proofs.Common.{◌≡◌, ◌<◌, ℕ, List, [], ◌∷◌, length, Option, Some, None, Ok, Err, refl, sym, ap, ◌∙◌, map, arith}
+use Rattle.std.proofs.Common.{◌≡◌, ◌<◌, ℕ, List, [], ◌∷◌, length, Option, Some, None, Ok, Err, refl, sym, ap, ◌∙◌, arith}
 use Rattle.std.specs.Map.{keys_of, values_of, lookup}
 use Rattle.gl_text.specs.LogicalLines.{same_text, no_top, top_devices}
-use Rattle.gl_text.specs.Decks as decks
 use Rattle.gl_text.specs.Decks.{Deck, Sub, find_sub}
 use Rattle.gl_text.specs.Flattening.{chosen, line_of_body}
 use Rattle.gl_deck.specs.declared.body.Body.{Body}

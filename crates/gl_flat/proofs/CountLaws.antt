@@ -1,5 +1,5 @@
 -- Cards have as many flat devices as they count.
-use Rattle.std.proofs.Common.{◌≡◌, ◌+◌, ℕ, zero, suc, List, [], ◌∷◌, length, Bool, true, false, cond, Option, Some, None, refl, sym, ap, ◌∙◌, map, find, flat_map, fold, option_map, sum_by, unwrap_or, length-append, arith}
+use Rattle.std.proofs.Common.{◌≡◌, ◌+◌, ℕ, zero, suc, List, [], ◌∷◌, length, Bool, true, false, cond, Option, Some, None, refl, sym, ◌∙◌, map, find, flat_map, fold, option_map, sum_by, unwrap_or, length-append, arith}
 use Rattle.gl_text.specs.LogicalLines.{same_text}
 use Rattle.gl_text.specs.Cards.{Call}
 use Rattle.gl_text.specs.Decks.{Body, dev_at, call_at, Sub, find_sub}

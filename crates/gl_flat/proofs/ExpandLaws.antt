@@ -1,16 +1,12 @@
 -- The flat devices of cards, one card after the other.
-use Rattle.std.proofs.Common.{◌≡◌, ◌<◌, ◌+◌, ◌-◌, ℕ, zero, suc, List, [], ◌∷◌, ◌++◌, length, take, get_or, Option, Some, None, refl, sym, ap, ◌∙◌, map, zip, option_map, flat_map, append-nil, append_assoc, arith}
+use Rattle.std.proofs.Common.{◌≡◌, ◌<◌, ◌+◌, ℕ, zero, suc, List, [], ◌∷◌, ◌++◌, length, take, get_or, sym, ap, ◌∙◌, append_assoc}
 use Rattle.std.proofs.lemmas.Grind.{flat_map-append}
 use Rattle.std.proofs.lemmas.List.{take_more, map-append}
-use Rattle.gl_text.specs.Cards.{Device, Call}
 use Rattle.gl_text.specs.Decks as decks
 use Rattle.gl_text.specs.Decks.{dev_at, call_at, Sub, find_sub}
-use Rattle.gl_text.specs.Flattening.{FlatDevice, Place, devices_of, flat_devices, inside, net_of}
+use Rattle.gl_text.specs.Flattening.{FlatDevice, Place, devices_of, flat_devices}
 use Rattle.gl_deck.specs.declared.body.Body.{Body}
 use Rattle.gl_deck.specs.Bodies.{body_value, bodies_value}
-use Rattle.gl_flat.specs.declared.step.Step.{Step}
-use Rattle.gl_flat.specs.Ways.{behind, place_of}
-use Rattle.gl_flat.proofs.WayLaws.{place_behind}
 
 -- cards behind cards
 devices_both : (rails : List (List ℕ)) (subs : List Sub) (depth : ℕ) (place : Place) (xs ys : List decks.Body) → flat_devices rails subs depth place (xs ++ ys) ≡ flat_devices rails subs depth place xs ++ flat_devices rails subs depth place ys

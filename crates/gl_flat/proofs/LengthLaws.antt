@@ -1,12 +1,11 @@
 -- Lengths of texts, added up text by text.
-use Rattle.std.proofs.Common.{◌≡◌, ◌+◌, ℕ, List, [], ◌∷◌, ◌++◌, length, min, refl, sym, ap, ◌∙◌, append-nil, append_assoc, arith, length-append}
-use Rattle.std.specs.Prelude.{Option, Some, option_to_list, codes}
+use Rattle.std.proofs.Common.{◌≡◌, ℕ, List, [], ◌∷◌, ◌++◌, sym, ap, ◌∙◌, append-nil, append_assoc, arith, length-append}
+use Rattle.std.specs.Prelude.{codes}
 use Rattle.std.specs.List.{join_with_byte}
-use Rattle.gl_text.specs.Cards.{Head, subckt, spaced, with_tail}
+use Rattle.gl_text.specs.Cards.{Head, subckt}
 use Rattle.gl_text.specs.Decks.{line_of}
 use Rattle.gl_card.specs.Lines.{spaced_all}
 use Rattle.gl_flat.specs.Lengths.{after}
-use Rattle.gl_flat.proofs.PrintingLaws.{device_words}
 
 -- a text behind a text
 pub both : (t : ℕ) (x y : List ℕ) → after (after t x) y ≡ after t (x ++ y)

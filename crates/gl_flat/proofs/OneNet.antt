@@ -1,11 +1,11 @@
 -- Where no names clash, a flat name is that of one net.
-use Rattle.std.proofs.Common.{◌≡◌, ◌<◌, ℕ, zero, suc, List, [], ◌∷◌, ◌++◌, length, Bool, true, false, not, Option, None, refl, sym, ap, ◌∙◌, subst, map, flat_map, inl, inr, arith}
-use Rattle.std.specs.Prelude.{◌||◌, ◌&&◌, ◌⊎◌, Contains, codes}
+use Rattle.std.proofs.Common.{◌≡◌, ℕ, zero, suc, List, [], ◌∷◌, ◌++◌, Bool, true, false, not, None, refl, sym, ap, ◌∙◌, map, flat_map, inl, inr, arith}
+use Rattle.std.specs.Prelude.{◌&&◌, ◌⊎◌, Contains, codes}
 use Rattle.std.specs.List.{list_any}
 use Rattle.std.proofs.lemmas.Bool.{or_parts, and_from}
-use Rattle.gl_text.specs.LogicalLines.{Fault, name_clash, same_text}
+use Rattle.gl_text.specs.LogicalLines.{name_clash, same_text}
 use Rattle.gl_text.specs.Cards.{when}
-use Rattle.gl_text.specs.Flattening.{Net, FlatDevice, Flat, Bearer, device, net, net_name, top_net, top_ports, bearers, bearer_name, clash, first_clash}
+use Rattle.gl_text.specs.Flattening.{Net, FlatDevice, Flat, Bearer, net, net_name, top_net, top_ports, bearers, bearer_name, clash, first_clash}
 use Rattle.gl_printed.proofs.Refusals.{none_first, when_none}
 use Rattle.gl_deck.proofs.CallLaws.{itself}
 use Rattle.gl_deck.proofs.Members.{In, in_left, in_right, in_map, in_flat, from_append, from_flat, from_map}

@@ -1,18 +1,17 @@
 -- Flattening, put together from its steps.
-use Rattle.std.proofs.Common.{◌≡◌, ◌≤◌, ◌<◌, ◌+◌, ◌-◌, ◌^◌, ℕ, List, [], ◌∷◌, length, min, Bool, true, false, cond, ltb, Option, Some, None, Result, Ok, Err, refl, sym, ap, ◌∙◌, subst, map, flat_map, arith}
+use Rattle.std.proofs.Common.{◌≡◌, ◌≤◌, ◌<◌, ◌+◌, ℕ, List, length, Bool, true, false, ltb, Option, Some, None, Result, Ok, Err, refl, sym, ap, ◌∙◌, subst, arith}
 use Rattle.std.specs.Result.{IsErrAnd}
 use Rattle.std.proofs.lemmas.Bool.{ltb-true, ltb-false, lt-ltb}
 use Rattle.gl_text.specs.LogicalLines.{Fault, long_text}
 use Rattle.gl_text.specs.Cards.{Head, when, or_else}
 use Rattle.gl_text.specs.Decks.{◌>>=◌, Body, Sub, Deck}
-use Rattle.gl_text.specs.Flattening.{DEPTH, TEXT, FlatDevice, Flat, flat_devices, flat_text, flatten, chosen, top_place, top_ports, bearers}
+use Rattle.gl_text.specs.Flattening.{DEPTH, TEXT, FlatDevice, Flat, flat_devices, flat_text, flatten, chosen, top_place}
 use Rattle.gl_flat.specs.declared.fault.FlatFault.{FlatFault}
 use Rattle.gl_flat.specs.declared.fault.FlatFault.TheVariants as faults
 use Rattle.gl_flat.specs.Lengths.{after}
-use Rattle.gl_flat.specs.LongNames.{long_in}
-use Rattle.gl_flat.specs.Numbered.{Numbered, numbered}
+use Rattle.gl_flat.specs.Numbered.{Numbered}
 use Rattle.gl_flat.specs.Refusals.{Gives, IsFound, IsRefusal, fault_of}
-use Rattle.gl_flat.specs.Steps.{excess_in, flat_with, text_fault, clash_in, checked, judged, stepwise}
+use Rattle.gl_flat.specs.Steps.{excess_in, text_fault, checked, judged, stepwise}
 
 -- ---- the text's length
 

@@ -1,6 +1,6 @@
 -- X cards on the way: the nets to which names lead.
-use Rattle.std.proofs.Common.{◌≡◌, ◌<◌, ◌≤◌, ◌+◌, ◌-◌, ℕ, zero, suc, List, [], ◌∷◌, ◌++◌, length, take, get_or, Bool, true, false, not, cond, ltb, Option, Some, None, refl, sym, ap, ◌∙◌, map, option_map, find, zip, unwrap_or, fold, append_assoc, append-nil, subst, arith}
-use Rattle.std.specs.Prelude.{slice_get, position, IfOk, Result}
+use Rattle.std.proofs.Common.{◌≡◌, ◌<◌, ◌≤◌, ◌+◌, ◌-◌, ℕ, suc, List, [], ◌∷◌, ◌++◌, length, take, get_or, Bool, true, false, not, cond, ltb, Option, Some, None, refl, sym, ap, ◌∙◌, map, option_map, find, zip, unwrap_or, fold, append_assoc, append-nil, subst, arith}
+use Rattle.std.specs.Prelude.{position, IfOk, Result}
 use Rattle.std.specs.List.{position_or_len}
 use Rattle.std.specs.Cmp.Lexicographic.{nat_list_eq_equiv}
 use Rattle.std.proofs.lemmas.Bool.{ltb-true, ltb-false, lt-ltb}

@@ -1,6 +1,6 @@
 -- Lengths of texts, added up as far as a count goes.
-use Rattle.std.specs.Prelude.{ℕ, ◌+◌, ◌-◌, ◌^◌, List, [], ◌∷◌, ◌++◌, length, min, flat_map, Option, Some}
-use Rattle.gl_text.specs.Cards.{Model, Head, dev, model, global, passed, subckt, ends}
+use Rattle.std.specs.Prelude.{ℕ, ◌+◌, ◌-◌, ◌^◌, List, length, min}
+use Rattle.gl_text.specs.Cards.{dev}
 use Rattle.gl_text.specs.Decks.{line_of}
 use Rattle.gl_text.specs.Flattening.{FlatDevice, flat_card}
 

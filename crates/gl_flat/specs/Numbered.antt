@@ -1,5 +1,5 @@
 -- Flat decks with numbered nets: the nets stand in a list, each once, and a device has their numbers.
-use Rattle.std.specs.Prelude.{ℕ, List, [], ◌∷◌, ◌++◌, map, flat_map, Option, Some, slice_get, unwrap_or}
+use Rattle.std.specs.Prelude.{ℕ, List, [], ◌∷◌, ◌++◌, map, flat_map, Option, slice_get, unwrap_or}
 use Rattle.std.specs.List.{position_or_len}
 use Rattle.gl_text.specs.LogicalLines.{same_text}
 use Rattle.gl_text.specs.Cards.{Device, Model, Head, dev, model, global, passed, ended}

@@ -10,7 +10,7 @@ use Rattle.gl_deck.specs.Bodies.{bodies_value}
 use Rattle.gl_flat.specs.declared.scene.Scene.{Scene}
 use Rattle.gl_flat.specs.LongNames.{long_in}
 
--- 23 and 22
+-- what exceeds first: a chain of X cards, then the cards, then the devices
 abbrev pub excess_in : List Sub → List Body → Option Fault
 excess_in subs cards = first_some (when (not (is_none_left (at_depth subs cards DEPTH))) (too_deep (DEPTH + 1))
     ∷ when (nat_lt CARDS (count one subs cards)) (too_many_cards (CARDS + 1))
@@ -20,11 +20,11 @@ excess_in subs cards = first_some (when (not (is_none_left (at_depth subs cards 
 abbrev pub flat_with : Deck → List (List ℕ) → Option Head → List FlatDevice → Flat
 flat_with deck rails head devices = record { title = deck.title; rails = rails; models = deck.models; top = head; devices = devices; passed = deck.passed }
 
--- 26
+-- what refuses a text by its length
 abbrev pub text_fault : Flat → Option Fault
 text_fault flat = when (nat_lt TEXT (length (flat_text flat))) (long_text (TEXT + 1))
 
--- 20
+-- the first clash of devices with nets of the top, or with each other
 abbrev pub clash_in : List (List ℕ) → List (List ℕ) → List FlatDevice → Option Fault
 clash_in rails ports devices = first_clash (map (λ n. net (top_net n)) (codes "0" ∷ rails ++ ports)) (flat_map bearers devices)
 

@@ -1,11 +1,10 @@
 -- X cards on the way to a card, and the place to which they lead.
 use Rattle.std.specs.Prelude.{◌≡◌, ℕ, List, [], ◌∷◌, ◌++◌, map, fold, zip, Option, Some, None, position, slice_get}
 use Rattle.std.specs.List.{AllByRecursion}
-use Rattle.indexmap.specs.IndexMap.{IndexMap, keys, values}
+use Rattle.indexmap.specs.IndexMap.{keys, values}
 use Rattle.gl_text.specs.LogicalLines.{same_text}
-use Rattle.gl_text.specs.Cards.{Call}
 use Rattle.gl_text.specs.Decks as decks
-use Rattle.gl_text.specs.Flattening.{Net, Place, top_place, net_of}
+use Rattle.gl_text.specs.Flattening.{Place, top_place, net_of}
 use Rattle.gl_printed.specs.ReadDecks.{AllDiffer}
 use Rattle.gl_deck.specs.Bodies.{names_of}
 use Rattle.gl_flat.specs.declared.step.Step.{Step}

@@ -16,7 +16,7 @@ use crate::{FlatFault, Name, Sub};
 use indexmap::IndexMap;
 use std::alloc::{AllocError, Global};
 
-/// The first name that clashes among devices.
+/// The first name that clashes among devices; every other refusal there is want of memory.
 fn clash_among<'a>(
     alloc: Global,
     zero: &'a Name,

@@ -1,4 +1,4 @@
-use Rattle.std.proofs.Common.{◌≡◌, ◌<◌, ◌^◌, ◌∙◌, ◌∷◌, ◌++◌, ap, sym, subst, length, flat_map, List, None}
+use Rattle.std.proofs.Common.{◌≡◌, ◌<◌, ◌^◌, ◌∙◌, ap, sym, subst, length, flat_map, List, None}
 use Rattle.std.specs.Option.{option_copied}
 use Rattle.gl_text.specs.Flattening.{FlatDevice, bearers, top_ports}
 use Rattle.gl_flat.specs.LongNames.{AreCountable, long_in}

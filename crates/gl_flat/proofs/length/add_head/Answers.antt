@@ -1,6 +1,5 @@
 use Rattle.std.proofs.Common.{◌∙◌, ◌∷◌, [], ◌++◌, ap, refl}
 use Rattle.std.specs.Prelude.{codes}
-use Rattle.gl_text.specs.Cards.{Head}
 use Rattle.gl_card.specs.Lines.{spaced_all}
 use Rattle.gl_flat.specs.Lengths.{after}
 use Rattle.gl_flat.proofs.LengthLaws.{next, head_words}

@@ -1,9 +1,4 @@
-use Rattle.std.proofs.Common.{◌≡◌, ◌++◌, take, map}
-use Rattle.std.specs.Prelude.{flat_map}
-use Rattle.gl_text.specs.Flattening.{path_text, net_name}
-use Rattle.gl_card.specs.Lines.{spaced_all}
-use Rattle.gl_flat.specs.Lengths.{after, flat_line}
-use Rattle.gl_flat.specs.Numbered.{global_line, model_line, passed_line}
+use Rattle.std.proofs.Common.{◌≡◌, ◌++◌}
 use Rattle.gl_flat.proofs.naming.named_nets.Given as goal
 
 abbrev pub invariant-loop-net : goal.invariant-loop-net

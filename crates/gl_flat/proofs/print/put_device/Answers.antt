@@ -1,4 +1,4 @@
-use Rattle.std.proofs.Common.{◌≡◌, ◌∙◌, ◌++◌, ◌∷◌, [], refl, ap, map}
+use Rattle.std.proofs.Common.{◌≡◌, ◌∙◌, ◌++◌, ◌∷◌, [], ap, map}
 use Rattle.std.specs.Prelude.{option_to_list}
 use Rattle.gl_text.specs.Cards.{spaced}
 use Rattle.gl_card.specs.Lines.{spaced_all}

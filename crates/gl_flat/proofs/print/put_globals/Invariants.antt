@@ -1,7 +1,6 @@
-use Rattle.std.proofs.Common.{◌≡◌, ◌++◌, take, map}
+use Rattle.std.proofs.Common.{◌≡◌, ◌++◌, take}
 use Rattle.std.specs.Prelude.{flat_map}
-use Rattle.gl_card.specs.Lines.{spaced_all}
-use Rattle.gl_flat.specs.Numbered.{global_line, model_line, passed_line, device_line, name_at}
+use Rattle.gl_flat.specs.Numbered.{global_line}
 use Rattle.gl_flat.proofs.print.put_globals.Given as goal
 
 abbrev pub invariant-loop-name : goal.invariant-loop-name

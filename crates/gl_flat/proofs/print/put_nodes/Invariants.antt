@@ -1,7 +1,6 @@
 use Rattle.std.proofs.Common.{◌≡◌, ◌++◌, take, map}
-use Rattle.std.specs.Prelude.{flat_map}
 use Rattle.gl_card.specs.Lines.{spaced_all}
-use Rattle.gl_flat.specs.Numbered.{global_line, model_line, passed_line, device_line, name_at}
+use Rattle.gl_flat.specs.Numbered.{name_at}
 use Rattle.gl_flat.proofs.print.put_nodes.Given as goal
 
 abbrev pub invariant-loop-node : goal.invariant-loop-node

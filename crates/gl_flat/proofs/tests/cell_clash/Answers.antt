@@ -1,5 +1,4 @@
-use Rattle.std.proofs.Common.{◌≡◌, sym, subst, List}
-use Rattle.indexmap.specs.IndexMap.{values}
+use Rattle.std.proofs.Common.{sym, subst, List}
 use Rattle.gl_text.specs.Decks.{Sub}
 use Rattle.gl_flat.specs.Ways.{PortsDiffer}
 use Rattle.gl_flat.proofs.SoundLaws.{ports_differ}

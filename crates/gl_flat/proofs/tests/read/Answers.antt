@@ -1,4 +1,4 @@
-use Rattle.std.proofs.Common.{◌≡◌, true}
+use Rattle.std.proofs.Common.{true}
 use Rattle.gl_flat.proofs.tests.read.Goals as goal
 
 pub returns : goal.returns

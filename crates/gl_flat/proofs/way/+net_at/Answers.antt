@@ -1,4 +1,3 @@
-use Rattle.std.proofs.Common.{length, take, ◌-◌, ◌≡◌}
 use Rattle.gl_flat.proofs.WayLaws.{last_step, port_leads, first_leads, no_port_leads, same_net}
 use Rattle.gl_flat.proofs.way.+net_at.Goals as goal
 use Rattle.gl_flat.proofs.way.+net_at.Goals.{in_default, in-len1-up+in_default-actual}
