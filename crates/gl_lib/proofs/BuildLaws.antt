@@ -1,6 +1,6 @@
 -- What the tables give is the circuit of the deck and the patterns of the cells, and want of memory alone refuses it.
-use Rattle.std.proofs.Common.{◌≡◌, ◌+◌, ◌<◌, ◌≤◌, ℕ, List, [], ◌∷◌, ◌++◌, length, get_or, map, Option, None, Some, refl, sym, ap, ◌∙◌, subst, arith, inl, inr}
-use Rattle.std.specs.Prelude.{Contains, ◌⊎◌, All, flat_map, filter_map, position}
+use Rattle.std.proofs.Common.{◌≡◌, ◌+◌, ◌<◌, ℕ, List, ◌++◌, length, get_or, map, Option, None, Some, sym, ap, ◌∙◌, subst, arith, inl, inr}
+use Rattle.std.specs.Prelude.{Contains, ◌⊎◌, All, filter_map, position}
 use Rattle.std.proofs.lemmas.List.Elements.{Contains-get_or, All-map}
 use Rattle.gl_text.specs.LogicalLines.{same_text}
 use Rattle.gl_text.specs.Cards.{Device as Card, Head}
@@ -22,14 +22,14 @@ use Rattle.gl_base.specs.Rounds.{cells_at, searched, cell_pattern}
 use Rattle.gl_base.proofs.OnceLaws.{found, once_kept}
 use Rattle.gl_base.proofs.TextLaws as text
 use Rattle.gl_flat.specs.Numbered.{Numbered, NumberedDevice}
-use Rattle.gl_lib.specs.Sources.{cards_in, source_in, NodesBelow, device_of_flat, AreSound}
+use Rattle.gl_lib.specs.Sources.{cards_in, source_in, device_of_flat, AreSound}
 use Rattle.gl_lib.specs.Numbered.{AreNets, IsNumbered, IsAmongTypes}
 use Rattle.gl_lib.proofs.CircuitLaws.{few_nets}
 use Rattle.gl_lib.proofs.CellLaws.{cells_among}
 use Rattle.gl_lib.proofs.FitLaws.{pattern_fits}
 use Rattle.gl_lib.proofs.PatternLaws.{ports_are_nets}
 use Rattle.gl_lib.proofs.SoundLaws.{circuit_sound, circuit_small, cell_numbered, pattern_sound, pattern_few}
-use Rattle.gl_lib.proofs.FlatLaws.{flat_devices_same, flat_among, nets_once}
+use Rattle.gl_lib.proofs.FlatLaws.{flat_devices_same, nets_once}
 
 -- where there is no refusal, a fault is want of memory
 pub only_memory : (refusal : Option BuildFault) (fault : BuildFault) → refusal ≡ None → (fault ≡ Memory) ⊎ (refusal ≡ Some fault) → fault ≡ Memory

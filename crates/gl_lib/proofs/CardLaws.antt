@@ -1,21 +1,17 @@
 -- Cards as devices: their types have numbers and as many places, and their nets have numbers.
-use Rattle.std.proofs.Common.{◌≡◌, ◌+◌, ◌<◌, ◌≤◌, ℕ, zero, suc, List, [], ◌∷◌, ◌++◌, length, get_or, map, cond, eqb, Bool, true, false, Option, None, Some, refl, sym, ap, ◌∙◌, subst, arith, inl, inr}
-use Rattle.std.specs.Prelude.{not, Contains, ◌⊎◌, ◌||◌, All, slice_index_or, flat_map}
-use Rattle.std.specs.List.{list_any, position_or_len}
+use Rattle.std.proofs.Common.{◌≡◌, ◌<◌, ℕ, List, [], ◌∷◌, length, get_or, map, cond, eqb, Bool, true, false, Option, None, Some, refl, sym, ap, ◌∙◌, subst, arith, inl, inr}
+use Rattle.std.specs.Prelude.{All, slice_index_or}
+use Rattle.std.specs.List.{list_any}
 use Rattle.std.proofs.lemmas.Bool.{cases_Bool, eqb-true}
 use Rattle.std.proofs.lemmas.List.{length-map}
 use Rattle.std.proofs.lemmas.List.Elements.{All-map}
-use Rattle.gl_match.proofs.Lists.{get_map, in_map, from_map}
+use Rattle.gl_match.proofs.Lists.{get_map}
 use Rattle.gl_text.specs.LogicalLines.{same_text}
-use Rattle.gl_text.specs.Cards.{Device as Card, Kind, device, other, caller, unknown, kinds, by_byte, first_byte, IsDeviceCard}
-use Rattle.gl_text.specs.Decks.{is_in}
-use Rattle.gl_match.specs.Graph.{Device}
-use Rattle.gl_graph.specs.declared.fault.BuildFault.{BuildFault}
-use Rattle.gl_graph.specs.Built.{NetsBelow, IsShape}
+use Rattle.gl_text.specs.Cards.{Device as Card, device, other, caller, unknown, kinds, by_byte, first_byte, IsDeviceCard}
 use Rattle.gl_graph.specs.Faults.{is_bad_shape, device_fault}
-use Rattle.gl_base.specs.TypeNames.{TypeName, of_word, of_model, of_letter, of_cell, same_type, type_by, type_by_model, type_by_word, classes_of, classes_by, letter_classes, each_once}
+use Rattle.gl_base.specs.TypeNames.{TypeName, of_letter, same_type, type_by, type_by_model, type_by_word, classes_of, classes_by, letter_classes}
 use Rattle.gl_base.specs.BaseCircuit.{net_number, type_number, device_by}
-use Rattle.gl_base.proofs.OnceLaws.{there, found, place_within, place_back}
+use Rattle.gl_base.proofs.OnceLaws.{there, place_within, place_back}
 use Rattle.gl_base.proofs.TextLaws as text
 use Rattle.gl_base.proofs.TypeLaws as kinds_are
 use Rattle.gl_lib.specs.Numbered.{AreNets, IsNumbered}

@@ -1,12 +1,12 @@
 -- The circuit of a deck has no fault, and few enough parts.
-use Rattle.std.proofs.Common.{◌≡◌, ◌+◌, ◌*◌, ◌<◌, ◌≤◌, ℕ, zero, suc, List, [], ◌∷◌, ◌++◌, length, get_or, map, take, Bool, true, false, eqb, ltb, Option, None, Some, refl, sym, ap, ◌∙◌, subst, arith, inl, inr, length-append}
-use Rattle.std.specs.Prelude.{not, Contains, ◌⊎◌, ◌||◌, All, flat_map, position, min}
-use Rattle.std.specs.List.{list_any, position_or_len, sum_by}
+use Rattle.std.proofs.Common.{◌≡◌, ◌+◌, ◌<◌, ◌≤◌, ℕ, List, [], ◌∷◌, length, get_or, map, take, true, false, ltb, Option, None, Some, refl, sym, ap, ◌∙◌, subst, arith}
+use Rattle.std.specs.Prelude.{not, Contains, All, flat_map, position}
+use Rattle.std.specs.List.{list_any}
 use Rattle.std.proofs.lemmas.Bool.{or_from, not_from_true, lt-ltb, ltb-false, or_parts, eqb-true, false_from_ne_true}
 use Rattle.std.proofs.lemmas.List.{length-map, get_or-take, length-take}
 use Rattle.std.proofs.lemmas.List.Folds.{list_any_none}
 use Rattle.std.proofs.lemmas.List.Sums.{sum_by-cons}
-use Rattle.std.proofs.lemmas.List.Elements.{Contains-get_or, Contains-append_left, Contains-append_right}
+use Rattle.std.proofs.lemmas.List.Elements.{Contains-get_or}
 use Rattle.gl_match.proofs.Lists.{Once, get_map, in_map, from_map}
 use Rattle.gl_text.specs.LogicalLines.{same_text}
 use Rattle.gl_text.specs.Cards.{Device as Card, IsDeviceCard}
@@ -21,7 +21,7 @@ use Rattle.gl_base.specs.BaseCircuit.{nets_of, net_number, device_by}
 use Rattle.gl_base.proofs.OnceLaws.{found, in_once, from_once, length_once, once_apart, position_back}
 use Rattle.gl_base.proofs.TextLaws as text
 use Rattle.gl_base.proofs.TypeLaws as kinds_are
-use Rattle.gl_lib.specs.Numbered.{AreNets, IsNumbered}
+use Rattle.gl_lib.specs.Numbered.{IsNumbered}
 use Rattle.gl_lib.proofs.FaultLaws.{no_fault, none_from_start}
 use Rattle.gl_lib.proofs.CardLaws.{type_sound, card_sound}
 use Rattle.gl_lib.proofs.InsertLaws.{places_are}

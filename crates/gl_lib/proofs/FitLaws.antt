@@ -1,16 +1,15 @@
 -- The pattern of a cell fits into the circuit of its source.
-use Rattle.std.proofs.Common.{◌≡◌, ◌+◌, ◌<◌, ◌≤◌, ℕ, List, [], ◌∷◌, ◌++◌, length, get_or, map, Option, None, Some, refl, sym, ap, ◌∙◌, subst, arith}
-use Rattle.std.specs.Prelude.{Contains, All, flat_map, position}
+use Rattle.std.proofs.Common.{◌≡◌, ℕ, List, [], ◌++◌, length, get_or, map, Option, None, Some, refl, sym, ap, ◌∙◌, subst, arith}
+use Rattle.std.specs.Prelude.{Contains, position}
 use Rattle.std.proofs.lemmas.List.{length-map}
 use Rattle.std.proofs.lemmas.List.Elements.{All-map}
 use Rattle.gl_text.specs.LogicalLines.{same_text}
 use Rattle.gl_text.specs.Cards.{Device as Card, Head, IsDeviceCard}
 use Rattle.gl_text.specs.OneCell.{IsCellOf}
-use Rattle.gl_match.specs.declared.role.Role.TheVariants.{Port, Rail, Inner}
 use Rattle.gl_match.specs.Graph.{Circuit, HasShape, IsKnownRail, FitsInto}
 use Rattle.gl_base.specs.Rails.{all_rails}
 use Rattle.gl_base.specs.TypeNames.{TypeName, type_by, word_of, classes_of}
-use Rattle.gl_base.specs.BaseCircuit.{Source, nets_of, net_number, types_of, type_in, device_by, device_of, circuit_of}
+use Rattle.gl_base.specs.BaseCircuit.{Source, nets_of, net_number, types_of, device_by, device_of, circuit_of}
 use Rattle.gl_base.specs.Patterns.{role_of, role_by, pattern_of, IsSound}
 use Rattle.gl_base.proofs.OnceLaws.{position_back}
 use Rattle.gl_base.proofs.TextLaws as text

@@ -1,14 +1,13 @@
 -- Flat devices as devices: their nets' numbers are as they are, and their types are among the types.
-use Rattle.std.proofs.Common.{◌≡◌, ◌+◌, ◌<◌, ◌≤◌, ℕ, suc, List, [], ◌∷◌, ◌++◌, length, get_or, map, Option, refl, sym, ap, ◌∙◌, subst, arith, length-append}
+use Rattle.std.proofs.Common.{◌≡◌, ◌<◌, ℕ, suc, List, [], ◌∷◌, ◌++◌, length, get_or, map, Option, refl, sym, ap, ◌∙◌, subst, arith}
 use Rattle.std.specs.Prelude.{Contains, All, flat_map, unwrap_or}
-use Rattle.std.specs.List.{list_any}
 use Rattle.std.proofs.lemmas.List.Elements.{Contains-get_or, Contains-append_left}
 use Rattle.gl_match.proofs.Lists.{Once, in_map}
 use Rattle.gl_text.specs.LogicalLines.{same_text}
 use Rattle.gl_text.specs.Cards.{Device as Card}
 use Rattle.gl_match.specs.Graph.{Device}
-use Rattle.gl_base.specs.TypeNames.{TypeName, same_type, type_by}
-use Rattle.gl_base.specs.BaseCircuit.{Source, nets_of, net_number, types_of, type_in, type_number, device_by}
+use Rattle.gl_base.specs.TypeNames.{TypeName, type_by}
+use Rattle.gl_base.specs.BaseCircuit.{nets_of, net_number, types_of, type_in, type_number, device_by}
 use Rattle.gl_base.specs.Libraries.{Library}
 use Rattle.gl_base.proofs.OnceLaws.{place_at}
 use Rattle.gl_base.proofs.TextLaws as text

@@ -1,14 +1,14 @@
 -- The keys of an index set after inserts: each once, in order of first appearance.
 use Rattle.std.proofs.Common.{◌≡◌, Option, Some, get_or, drop, ◌+◌, ◌<◌, ◌≤◌, ℕ, length, map, flat_map, arith, List, [], ◌∷◌, ◌++◌, cond, true, false, Bool, refl, sym, ap, ◌∙◌, subst, append_assoc, length-append, inl, inr}
-use Rattle.std.specs.Prelude.{not, Contains, ◌⊎◌, ◌||◌, ◌&&◌, filter, position, if◌then◌else◌}
-use Rattle.std.specs.List.{list_any, sum_by, position_or_len}
+use Rattle.std.specs.Prelude.{not, ◌||◌, ◌&&◌, filter, position, if◌then◌else◌}
+use Rattle.std.specs.List.{list_any, position_or_len}
 use Rattle.std.proofs.lemmas.List.{drop_more, drop_all}
 use Rattle.std.proofs.lemmas.List.Sums.{fold-append, sum_by-cons}
 use Rattle.gl_text.specs.Cards.{Device as Card}
 use Rattle.gl_text.specs.OneCell.{places_count}
 use Rattle.gl_base.specs.Rails.{zero_rail, all_rails, AreRails}
 use Rattle.gl_base.specs.BaseCircuit.{nets_of}
-use Rattle.std.proofs.lemmas.Bool.{cases_Bool, not_from_true, not_from_false}
+use Rattle.std.proofs.lemmas.Bool.{cases_Bool, not_from_true}
 use Rattle.std.proofs.lemmas.List.Elements.{filter_agree}
 use Rattle.std.proofs.lemmas.List.Folds.{list_any-append}
 use Rattle.indexmap.specs.IndexSet.{insert_key, insert_all}

@@ -1,26 +1,24 @@
 -- The pattern of a cell has no fault.
-use Rattle.std.proofs.Common.{◌≡◌, ◌+◌, ◌<◌, ◌≤◌, ℕ, zero, suc, List, [], ◌∷◌, ◌++◌, length, get_or, map, take, Bool, true, false, eqb, ltb, Option, None, Some, refl, sym, ap, ◌∙◌, subst, arith, inl, inr}
-use Rattle.std.specs.Prelude.{not, Contains, ◌⊎◌, ◌||◌, All, flat_map, position, slice_get}
-use Rattle.std.specs.List.{list_any, list_all, position_or_len}
-use Rattle.std.proofs.lemmas.Bool.{or_from, or_cases, not_from_true, not_from_false, lt-ltb, eqb-true, eq-eqb, ne_eqb, false_from_ne_true}
+use Rattle.std.proofs.Common.{◌≡◌, ◌<◌, ℕ, List, [], ◌∷◌, length, get_or, map, take, Bool, true, false, eqb, ltb, Option, None, Some, refl, sym, ap, ◌∙◌, subst, arith, inl, inr}
+use Rattle.std.specs.Prelude.{not, Contains, ◌||◌, flat_map, position, slice_get}
+use Rattle.std.specs.List.{list_any, list_all}
+use Rattle.std.proofs.lemmas.Bool.{or_from, or_cases, not_from_true, lt-ltb, eqb-true, eq-eqb, ne_eqb, false_from_ne_true}
 use Rattle.std.proofs.lemmas.List.{length-map, get_or-take, length-take}
 use Rattle.std.proofs.lemmas.List.Folds.{list_any_at, list_any_none}
-use Rattle.std.proofs.lemmas.List.Elements.{Contains-get_or, All-map}
+use Rattle.std.proofs.lemmas.List.Elements.{Contains-get_or}
 use Rattle.gl_match.proofs.Lists.{Once, get_map, in_map, from_map, from_flat_map, in_head, in_tail}
 use Rattle.gl_match.proofs.Says.{all_says}
 use Rattle.gl_text.specs.LogicalLines.{same_text}
-use Rattle.gl_text.specs.Cards.{Device as Card, Head, IsDeviceCard}
-use Rattle.gl_text.specs.Decks.{is_in as is_name_in}
+use Rattle.gl_text.specs.Cards.{Device as Card}
 use Rattle.gl_text.specs.OneCell.{is_on_card}
 use Rattle.gl_match.specs.declared.role.Role.{Role}
-use Rattle.gl_match.specs.declared.role.Role.TheVariants.{Port, Rail, Inner}
 use Rattle.gl_match.specs.Graph.{Device, Pattern, is_some_at, is_in}
 use Rattle.gl_graph.specs.declared.fault.BuildFault.TheVariants.{BadRole, BadPort}
 use Rattle.gl_graph.specs.Faults.{first_in, is_placed, is_rail_of, is_bad_role, role_fault, port_fault}
 use Rattle.gl_base.specs.TypeNames.{TypeName}
 use Rattle.gl_base.specs.BaseCircuit.{nets_of, net_number, device_by}
 use Rattle.gl_base.specs.Patterns.{role_by}
-use Rattle.gl_base.proofs.OnceLaws.{there, found, once_apart, position_back, position_there, place_within, place_back, place_at}
+use Rattle.gl_base.proofs.OnceLaws.{there, once_apart, position_back, position_there, place_within, place_back, place_at}
 use Rattle.gl_base.proofs.TextLaws as text
 use Rattle.gl_lib.proofs.FaultLaws.{no_fault, none_from_start}
 

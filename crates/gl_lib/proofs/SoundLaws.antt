@@ -1,6 +1,6 @@
 -- What is made of a sound source: circuit and patterns have no fault and few enough parts, and each pattern fits.
-use Rattle.std.proofs.Common.{◌≡◌, ◌+◌, ◌*◌, ◌<◌, ◌≤◌, ◌^◌, ℕ, zero, suc, List, [], ◌∷◌, ◌++◌, length, get_or, map, Bool, true, false, eqb, Option, None, Some, refl, sym, ap, ◌∙◌, subst, arith, inl, inr, length-append}
-use Rattle.std.specs.Prelude.{not, Contains, ◌⊎◌, ◌||◌, All, flat_map, filter_map, position}
+use Rattle.std.proofs.Common.{◌≡◌, ◌+◌, ◌<◌, ◌≤◌, ℕ, List, [], ◌∷◌, ◌++◌, length, map, eqb, None, sym, ap, ◌∙◌, subst, arith, inl, inr, length-append}
+use Rattle.std.specs.Prelude.{Contains, All, flat_map, position}
 use Rattle.std.proofs.lemmas.Bool.{ne_eqb}
 use Rattle.std.proofs.lemmas.List.{length-map}
 use Rattle.std.proofs.lemmas.List.Sums.{sum_by-append}
@@ -9,9 +9,8 @@ use Rattle.gl_match.proofs.Lists.{in_cons, in_none, in_flat_map}
 use Rattle.gl_text.specs.LogicalLines.{same_text}
 use Rattle.gl_text.specs.Cards.{Device as Card, Head}
 use Rattle.gl_text.specs.OneCell.{places_count, IsCellOf}
-use Rattle.gl_match.specs.Graph.{Circuit, Pattern, Device}
 use Rattle.gl_graph.specs.declared.fault.BuildFault.TheVariants.{NoDevice}
-use Rattle.gl_graph.specs.Built.{circuit_size, pattern_size, count_places}
+use Rattle.gl_graph.specs.Built.{circuit_size, pattern_size}
 use Rattle.gl_graph.specs.Faults.{first_in, device_fault, circuit_fault, pattern_fault}
 use Rattle.gl_base.specs.Rails.{all_rails}
 use Rattle.gl_base.specs.TypeNames.{type_by, word_of, classes_of}

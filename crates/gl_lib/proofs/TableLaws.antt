@@ -1,10 +1,9 @@
 -- The tables of a base, from what is read.
-use Rattle.std.proofs.Common.{◌≡◌, ◌+◌, ◌<◌, ◌≤◌, ℕ, zero, suc, List, [], ◌∷◌, ◌++◌, length, map, Option, Some, refl, sym, ap, ◌∙◌, subst, arith, inl, inr}
-use Rattle.std.specs.Prelude.{Contains, ◌⊎◌, flat_map}
+use Rattle.std.proofs.Common.{◌≡◌, ◌+◌, ◌<◌, ◌≤◌, ℕ, List, [], ◌∷◌, ◌++◌, length, map, Option, refl, sym, ap, ◌∙◌, subst, arith, inl, inr}
+use Rattle.std.specs.Prelude.{Contains, flat_map}
 use Rattle.std.proofs.lemmas.List.{map-append, length-map}
 use Rattle.std.proofs.lemmas.List.Sorted.{Contains-permutation, length_permutation}
-use Rattle.gl_match.proofs.Lists.{Once, split, in_head, in_tail, in_cons, in_none}
-use Rattle.gl_text.specs.Cards.{Device as Card, Model}
+use Rattle.gl_match.proofs.Lists.{Once, split, in_head, in_tail, in_cons}
 use Rattle.gl_text.specs.Decks.{Sub}
 use Rattle.gl_text.specs.OneCell.{devices_in}
 use Rattle.gl_base.specs.TypeNames.{TypeName, type_by, word_of, each_once}

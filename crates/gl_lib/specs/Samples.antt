@@ -1,9 +1,9 @@
 -- A flat deck and a library on which the definitions are computed.
-use Rattle.std.specs.Prelude.{ℕ, List, [], ◌∷◌, None, Some, codes}
+use Rattle.std.specs.Prelude.{[], ◌∷◌, None, Some, codes}
 use Rattle.gl_text.specs.Decks.{Sub}
 use Rattle.gl_base.specs.Libraries.{Library, loose}
-use Rattle.gl_base.specs.Rows.{transistor, resistor, model, inverter_head, inverter_cell, inverter_sub, cards_at_one}
-use Rattle.gl_flat.specs.Numbered.{Numbered, NumberedDevice}
+use Rattle.gl_base.specs.Rows.{resistor, model, inverter_sub, cards_at_one}
+use Rattle.gl_flat.specs.Numbered.{Numbered}
 
 -- an inverter from `in` to `out` and a resistor; ports are `in`, the rail `vdd`, and `nc`, which stands on no device
 abbrev pub sample_deck : Numbered

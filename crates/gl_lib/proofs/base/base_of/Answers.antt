@@ -1,6 +1,3 @@
-use Rattle.std.proofs.Common.{sym, subst}
-use Rattle.std.specs.Prelude.{All}
-use Rattle.gl_match.specs.Graph.{FitsInto}
 use Rattle.gl_lib.proofs.BuildLaws.{all_fit}
 use Rattle.gl_lib.proofs.base.base_of.Goals as goal
 

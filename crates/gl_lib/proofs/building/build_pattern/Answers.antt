@@ -1,5 +1,4 @@
 use Rattle.std.proofs.Common.{◌∙◌, ap, length, map, subst, sym, arith}
-use Rattle.std.specs.Prelude.{◌<◌}
 use Rattle.indexmap.specs.IndexMap.{get}
 use Rattle.gl_text.specs.LogicalLines.{same_text}
 use Rattle.gl_lib.specs.Numbered.{AreNets}

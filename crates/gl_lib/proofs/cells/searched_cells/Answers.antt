@@ -1,4 +1,4 @@
-use Rattle.std.proofs.Common.{◌++◌, length, refl, [], ◌∷◌}
+use Rattle.std.proofs.Common.{length, refl}
 use Rattle.std.proofs.lemmas.List.{length_push}
 use Rattle.std.proofs.lemmas.Slice.Zip.{zip_turn, zip_end}
 use Rattle.gl_lib.proofs.CellLaws.{cells_step, cells_done}

@@ -1,4 +1,4 @@
-use Rattle.std.proofs.Common.{◌≡◌, ◌+◌, ◌<◌, ℕ, List, ◌∙◌, ◌++◌, length, sym, ap, subst, arith}
+use Rattle.std.proofs.Common.{◌≡◌, ℕ, List, ◌∙◌, ◌++◌, length, ap, arith}
 use Rattle.indexmap.specs.IndexMap.{get}
 use Rattle.gl_text.specs.LogicalLines.{same_text}
 use Rattle.gl_base.specs.Rails.{all_rails}
