@@ -1,7 +1,7 @@
 -- Texts that are given one after another, the last perhaps in part.
 use Rattle.std.proofs.Common.{◌≡◌, ◌+◌, ◌<◌, ◌≤◌, ◌++◌, ℕ, List, [], Option, None, Some, refl, ap, sym, ◌∙◌, arith, take, length, append_assoc, length-append, inl, inr, subst}
 use Rattle.std.specs.Option.{option_map}
-use Rattle.std.specs.Prelude.{Result, Ok, Err, OnErr, codes, decimal}
+use Rattle.std.specs.Prelude.{Result, Ok, Err, OnOk, OnErr, codes, decimal}
 use Rattle.std.proofs.Math.Seq.{take-append-add}
 use Rattle.std.proofs.lemmas.List.{append-nil, take-append-le}
 use Rattle.gl_run.specs.Saying.{GivesOrFails}
@@ -61,3 +61,12 @@ on_err (Err e) p = p
 -- a number with nothing behind it
 pub said_number : (a b : View) (front : List ℕ) (n : ℕ) → GivesOrFails a b (front ++ decimal n ++ codes "\n") → GivesOrFails a b (front ++ (decimal n ++ []) ++ codes "\n")
 said_number a b front n h = subst (λ (t : List ℕ). GivesOrFails a b (front ++ t ++ codes "\n")) (sym (append-nil (decimal n))) h
+
+-- what follows from what holds of a value, or of a refusal
+pub ok_then : {A E : Type 0} {P Q : Type 0} (r : Result A E) → (P → Q) → OnOk r P → OnOk r Q
+ok_then (Ok x) f p = f p
+ok_then (Err e) f p = tt
+
+pub err_then : {A E : Type 0} {P Q : Type 0} (r : Result A E) → (P → Q) → OnErr r P → OnErr r Q
+err_then (Ok x) f p = tt
+err_then (Err e) f p = f p

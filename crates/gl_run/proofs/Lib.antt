@@ -1,3 +1,4 @@
 pub mod Fronts
 pub mod Told
 pub mod Complete
+pub mod ReadDecks

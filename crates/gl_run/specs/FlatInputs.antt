@@ -11,9 +11,14 @@ use Rattle.gl_run.specs.Refusals.{read_fault, flat_fault}
 abbrev pub text_of_deck : Deck → Result (List ℕ) Fault
 text_of_deck deck = flatten deck deck.globals None >>= λ f. Ok (flat_text f)
 
--- an ending tells a refusal of the deck, or want of memory where there is none
+-- an ending tells a refusal of reading, or want of memory where there is none
 abbrev pub Tells : Ending → Option Fault → Type 0
 Tells (endings.DeckRefused refusal) (Some fault) = read_fault refusal ≡ fault
-Tells (endings.FlatRefused refusal) (Some fault) = flat_fault refusal ≡ fault
 Tells endings.Memory None = Unit {0}
 Tells _ _ = ⊥
+
+-- an ending tells a refusal of flattening, or want of memory where there is none
+abbrev pub FlatTold : Ending → Option Fault → Type 0
+FlatTold (endings.FlatRefused refusal) (Some fault) = flat_fault refusal ≡ fault
+FlatTold endings.Memory None = Unit {0}
+FlatTold _ _ = ⊥

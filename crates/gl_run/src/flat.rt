@@ -8,7 +8,7 @@ ghost use Rattle.gl_flat.specs.Refusals.{IsRefusal, fault_of};
 ghost use Rattle.gl_run.specs.Messages.{status_of};
 ghost use Rattle.gl_run.specs.Reading.{seen};
 ghost use Rattle.gl_run.specs.FlatEndings.{Flattens, IsFlatMade, Unflat};
-ghost use Rattle.gl_run.specs.FlatInputs.{Tells, text_of_deck};
+ghost use Rattle.gl_run.specs.FlatInputs.{FlatTold, text_of_deck};
 ghost use Rattle.gl_run.specs.declared.ending.Ending.{Ending as End};
 
 use crate::ending::Ending;
@@ -23,7 +23,7 @@ use std::alloc::Global;
 
 /// How a run ends whose deck is refused as it is flattened.
 pub fn unflattened(fault: FlatFault) -> Ending
-    ensures tells { Tells result (fault_of fault) }
+    ensures tells { FlatTold result (fault_of fault) }
 {
     match refusal_in(fault) {
         Some(refusal) => Ending::FlatRefused(refusal),

@@ -24,48 +24,45 @@ fn limit_key(what: Limit) -> &'static str
     }
 }
 
-/// Gives the limit that a cell breaks, and the number, up to the line's end.
+/// Gives a text, a name and a text, and a number behind its key, up to the line's end.
 fn give_limit<D: Desk>(
     desk: &mut D,
+    front: &str,
     cell: &Name,
     what: &str,
     number: u32,
 ) -> Result<(), Failed>
     requires says { (D.shows desk.old Slot.Says).used ≡ true }
     ensures ok { OnOk result (Gives (D.shows desk.old Slot.Says) (D.shows desk.new Slot.Says)
-        (((codes "gatelift: 3 library: 31 CellLimit cell=" ++ cell.now ++ what.now) ++ (codes " number=" ++ decimal number)) ++ codes "\n")) }
+        (((front.now ++ cell.now ++ what.now) ++ (codes " number=" ++ decimal number)) ++ codes "\n")) }
     ensures err { OnErr result (GivesFront (D.shows desk.old Slot.Says) (D.shows desk.new Slot.Says)
-        (((codes "gatelift: 3 library: 31 CellLimit cell=" ++ cell.now ++ what.now) ++ (codes " number=" ++ decimal number)) ++ codes "\n")) }
+        (((front.now ++ cell.now ++ what.now) ++ (codes " number=" ++ decimal number)) ++ codes "\n")) }
     ensures others { OthersSame D.shows desk.old desk.new Slot.Says }
     ensures names { NamesSame D.held D.wants desk.old desk.new }
 {
-    give_texts(
-        desk,
-        "gatelift: 3 library: 31 CellLimit cell=",
-        cell.as_bytes(),
-        what,
-    )?;
+    give_texts(desk, front, cell.as_bytes(), what)?;
     give_number(desk, " number=", number)?;
     write_all(desk, Slot::Says, b"\n")?;
     Ok(())
 }
 
-/// Gives the cell in which a name clashes, and the name, up to the line's end.
-fn give_clash<D: Desk>(desk: &mut D, cell: &Name, name: &Name) -> Result<(), Failed>
+/// Gives a text, a name and a text, and another name, up to the line's end.
+fn give_clash<D: Desk>(
+    desk: &mut D,
+    front: &str,
+    cell: &Name,
+    middle: &str,
+    name: &Name,
+) -> Result<(), Failed>
     requires says { (D.shows desk.old Slot.Says).used ≡ true }
     ensures ok { OnOk result (Gives (D.shows desk.old Slot.Says) (D.shows desk.new Slot.Says)
-        ((codes "gatelift: 3 library: 33 CellClash cell=" ++ cell.now ++ codes " name=") ++ (name.now ++ codes "\n"))) }
+        ((front.now ++ cell.now ++ middle.now) ++ (name.now ++ codes "\n"))) }
     ensures err { OnErr result (GivesFront (D.shows desk.old Slot.Says) (D.shows desk.new Slot.Says)
-        ((codes "gatelift: 3 library: 33 CellClash cell=" ++ cell.now ++ codes " name=") ++ (name.now ++ codes "\n"))) }
+        ((front.now ++ cell.now ++ middle.now) ++ (name.now ++ codes "\n"))) }
     ensures others { OthersSame D.shows desk.old desk.new Slot.Says }
     ensures names { NamesSame D.held D.wants desk.old desk.new }
 {
-    give_texts(
-        desk,
-        "gatelift: 3 library: 33 CellClash cell=",
-        cell.as_bytes(),
-        " name=",
-    )?;
+    give_texts(desk, front, cell.as_bytes(), middle)?;
     give_texts(desk, "", name.as_bytes(), "\n")
 }
 
@@ -77,7 +74,13 @@ fn say_limit<D: Desk>(desk: &mut D, cell: &Name, what: Limit, number: u32)
     ensures others { OthersSame D.shows desk.old desk.new Slot.Says }
     ensures names { NamesSame D.held D.wants desk.old desk.new }
 {
-    match give_limit(desk, cell, limit_key(what), number) {
+    match give_limit(
+        desk,
+        "gatelift: 3 library: 31 CellLimit cell=",
+        cell,
+        limit_key(what),
+        number,
+    ) {
         Ok(()) => {}
         Err(Failed) => {}
     }
@@ -91,7 +94,13 @@ fn say_clash<D: Desk>(desk: &mut D, cell: &Name, name: &Name)
     ensures others { OthersSame D.shows desk.old desk.new Slot.Says }
     ensures names { NamesSame D.held D.wants desk.old desk.new }
 {
-    match give_clash(desk, cell, name) {
+    match give_clash(
+        desk,
+        "gatelift: 3 library: 33 CellClash cell=",
+        cell,
+        " name=",
+        name,
+    ) {
         Ok(()) => {}
         Err(Failed) => {}
     }
