@@ -1,18 +1,17 @@
 -- What is known of a library that was read.
-use Rattle.std.proofs.Common.{◌≡◌, ◌<◌, ◌≤◌, ◌∙◌, ℕ, zero, suc, List, [], ◌∷◌, ◌++◌, length, map, cond, ltb, Bool, true, false, Option, Some, None, Result, Ok, Err, All, refl, sym, ap, subst, arith}
-use Rattle.std.specs.Prelude.{◌&&◌, find, flat_map, nat_lt, not, option_map, slice_get, slice_index_or}
+use Rattle.std.proofs.Common.{◌≡◌, ◌<◌, ◌≤◌, ◌∙◌, ℕ, zero, suc, List, [], ◌∷◌, ◌++◌, length, map, cond, Bool, true, false, Option, Some, None, Result, Ok, Err, All, refl, sym, ap, subst, arith}
+use Rattle.std.specs.Prelude.{◌&&◌, find, flat_map, nat_lt, not, option_map, slice_get}
 use Rattle.std.specs.List.{list_all}
 use Rattle.std.proofs.lemmas.Bool.Decides.{nat_tests}
 use Rattle.std.proofs.lemmas.List.Elements.{All-cons, All-head, All-tail}
 use Rattle.gl_text.specs.LogicalLines.{FILE, Fault}
-use Rattle.gl_text.specs.Cards.{IsDeviceCard}
 use Rattle.gl_text.specs.Decks.{Body, dev_at, call_at, Sub, Deck, callees, is_in, read_deck}
-use Rattle.gl_text.specs.OneCell.{devices_in, is_on_card, IsCellOf}
+use Rattle.gl_text.specs.OneCell.{devices_in, IsCellOf}
 use Rattle.gl_printed.specs.ReadDecks.{IsReadDeck}
 use Rattle.gl_known.specs.Known.{IsKnownDeck, IsKnownSub}
 use Rattle.gl_printed.proofs.ReadDeckLaws.{read_fine}
 use Rattle.gl_known.proofs.DecksRead.{deck_read}
-use Rattle.gl_base.specs.Libraries.{CELLS, CELL_CARDS, PORTS, LEVEL, CELL_EXPANDED, Cause, Cell, Library, Skip, cause_if, cells_cause, cell_of, checked, clash_cause, clash_in, empty_else, first_cause, library_cause, library_of, limit_cause, loose, loose_port, nodes_of, own_skip, read_library, skip_of, skipped_callee, top_cause, unless, uses, uses_else}
+use Rattle.gl_base.specs.Libraries.{CELLS, CELL_CARDS, PORTS, LEVEL, CELL_EXPANDED, Cause, Cell, Library, Skip, cause_if, cells_cause, cell_of, checked, clash_cause, clash_in, empty_else, first_cause, library_cause, library_of, limit_cause, loose, loose_port, nodes_of, own_skip, read_library, skip_of, top_cause, unless, uses_else}
 use Rattle.gl_cells.specs.Limited.{clashes_cause, limits_cause}
 use Rattle.gl_cells.specs.KnownLibraries.{AreSearched, IsKnownLibrary, IsSearchedCell, IsWithinLimits}
 

@@ -1,7 +1,6 @@
 -- The names in a table are those that were added.
 use Rattle.std.proofs.Common.{◌≡◌, ℕ, List, [], ◌∷◌, ◌++◌, cond, Bool, true, false, Some, refl, sym, ap, ◌∙◌}
 use Rattle.std.specs.Prelude.{find, not, ◌||◌}
-use Rattle.std.specs.List.{list_any}
 use Rattle.std.specs.Cmp.Lexicographic.{nat_list_eq_equiv}
 use Rattle.std.proofs.lemmas.List.Folds.{list_any-append}
 use Rattle.std.proofs.lemmas.Map.Steps.{list_any_congr}

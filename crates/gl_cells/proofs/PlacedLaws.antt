@@ -1,19 +1,19 @@
 -- Levels and skipped cells by places are those by names.
 use Rattle.std.proofs.Common.{◌≡◌, ◌+◌, ◌<◌, ◌≤◌, ◌∙◌, ℕ, zero, suc, List, [], ◌∷◌, ◌++◌, length, map, cond, ltb, Bool, true, false, Option, Some, None, get_or, refl, sym, ap, arith}
 use Rattle.std.specs.Prelude.{max, not, ◌||◌, find, is_some, option_map, option_to_list, slice_index, slice_index_or, unwrap_or}
-use Rattle.std.specs.List.{list_any, position_or_len}
+use Rattle.std.specs.List.{position_or_len}
 use Rattle.std.proofs.Math.ListN.{replicate}
 use Rattle.std.proofs.lemmas.Bool.Decides.{nat_tests}
 use Rattle.std.proofs.lemmas.List.{get_or_past, length-map}
 use Rattle.std.proofs.lemmas.List.Folds.{list_any-append}
 use Rattle.gl_text.specs.LogicalLines.{same_text}
-use Rattle.gl_text.specs.Decks.{Body, dev_at, call_at, Sub, callees, find_sub}
+use Rattle.gl_text.specs.Decks.{Sub, callees, find_sub}
 use Rattle.gl_deck.specs.Bodies.{names_of}
 use Rattle.gl_deck.specs.Levels.{place_in}
 use Rattle.gl_deck.proofs.CallLaws.{flipped}
 use Rattle.gl_deck.proofs.PlaceLaws.{place_within}
-use Rattle.gl_size.specs.Tallies.{calls_of, has_mark, places_of}
-use Rattle.gl_base.specs.Libraries.{above, greatest, level_through, own_skip, is_called, skip_by, skipped_callee, is_skipped_through, uses_else, Skip, uses}
+use Rattle.gl_size.specs.Tallies.{has_mark, places_of}
+use Rattle.gl_base.specs.Libraries.{above, greatest, level_through, own_skip, is_called, skip_by, skipped_callee, is_skipped_through, uses_else, Skip}
 use Rattle.gl_cells.specs.Outlines.{Outline, outline_of, outlines_of, level_by, skipped_by, levels_through, marks_through}
 
 -- ---- a value of the cell of a name

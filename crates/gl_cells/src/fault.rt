@@ -78,6 +78,9 @@ impl From<DeckFault> for LibFault {
     ghost from_gives = { λ d e. cause_of e ≡ option_map refused (fault_of d) };
 
     fn from(fault: DeckFault) -> Self {
-        LibFault::Refused(fault)
+        match fault {
+            DeckFault::Memory => LibFault::Memory,
+            refusal => LibFault::Refused(refusal),
+        }
     }
 }

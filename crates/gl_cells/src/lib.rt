@@ -1,4 +1,4 @@
-//! Libraries of cells: what a library is, which refusals it has, the levels of its cells and which are skipped, as definitions and laws.
+//! Libraries of cells: a file read as its definition has it, with each cell's level and why it is skipped, or the first refusal.
 #![tactic(auto)]
 
 mod calls;
@@ -15,6 +15,8 @@ mod ports;
 mod read;
 mod skip;
 mod skips;
+#[cfg(test)]
+mod tests;
 
 pub use fault::{LibFault, Limit};
 pub use gl_deck::{Body, Deck, DeckFault, Name, Sub};

@@ -1,4 +1,4 @@
-use Rattle.std.proofs.Common.{◌≡◌, ◌+◌, ◌∙◌, ℕ, List, Option, ap, drop}
+use Rattle.std.proofs.Common.{◌+◌, ◌∙◌, ℕ, List, Option, ap, drop}
 use Rattle.std.specs.Prelude.{filter_map}
 use Rattle.gl_text.specs.Decks.{Body}
 use Rattle.gl_text.specs.OneCell.{call_line, earlier, earliest}

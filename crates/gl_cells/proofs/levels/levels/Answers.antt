@@ -1,9 +1,7 @@
-use Rattle.std.proofs.Common.{◌≡◌, ◌+◌, ◌≤◌, ◌∙◌, ℕ, suc, add-one, arith, List, length, ap, map, subst, sym}
+use Rattle.std.proofs.Common.{◌+◌, ◌≤◌, ◌∙◌, ℕ, add-one, arith, List, length, ap, map, subst, sym}
 use Rattle.std.specs.Prelude.{slice_index}
-use Rattle.std.proofs.Math.ListN.{replicate}
-use Rattle.gl_base.specs.Libraries.{CELLS}
 use Rattle.gl_cells.specs.Outlines.{Outline, levels_through, level_by}
-use Rattle.gl_cells.proofs.PlacedLaws.{as_many, first_low, first_values, levels_low, next_levels}
+use Rattle.gl_cells.proofs.PlacedLaws.{first_low, first_values, levels_low, next_levels}
 use Rattle.gl_cells.proofs.levels.levels.Goals as goal
 
 pub loop-calls-init : goal.loop-calls-init

@@ -1,6 +1,6 @@
 use Rattle.std.proofs.Common.{◌∙◌, add-one, Bool, false, List, ap, map, sym}
 use Rattle.gl_cells.specs.Outlines.{Outline, marks_through, skipped_by}
-use Rattle.gl_cells.proofs.PlacedLaws.{as_many, first_values, next_marks}
+use Rattle.gl_cells.proofs.PlacedLaws.{first_values, next_marks}
 use Rattle.gl_cells.proofs.skips.marks.Goals as goal
 
 pub loop-calls-init : goal.loop-calls-init
