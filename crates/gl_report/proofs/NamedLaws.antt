@@ -144,12 +144,13 @@ lists_named c s names (cell ∷ cells) (list ∷ lists) circuit patterns fits na
     let p = cell_pattern s cell in
     let behind = map (cell_pattern s) cells in
     let fit : FitsInto c p = All-head (FitsInto c) p behind fits in
-    let wired : IsWired c p = built_wired c p circuit (All-head IsBuiltPattern p behind patterns) in
-    (All-weaker (IsInstance c p) (IsNamed names cell) (λ i is. named c s cell names i fit wired naming is) list h.0.each,
-    lists_named c s names cells lists circuit (All-tail IsBuiltPattern p behind patterns) (All-tail (FitsInto c) p behind fits) naming h.1)
+    let wired : IsWired c p = built_wired c p circuit (All-head IsBuiltPattern p behind patterns) in (
+      All-weaker (IsInstance c p) (IsNamed names cell) (λ i is. named c s cell names i fit wired naming is) list h.0.each,
+      lists_named c s names cells lists circuit (All-tail IsBuiltPattern p behind patterns) (All-tail (FitsInto c) p behind fits) naming h.1,
+    )
 
 -- as many picks as instances, list by list
-picks_fit : (lists : List (List Instance)) (picks : List (List Pick)) → map length picks ≡ map length (sets_of lists) → AllZip (λ (items : List Instance) (picked : List Pick). length picked ≡ length items) lists picks
+pub picks_fit : (lists : List (List Instance)) (picks : List (List Pick)) → map length picks ≡ map length (sets_of lists) → AllZip (λ (items : List Instance) (picked : List Pick). length picked ≡ length items) lists picks
 picks_fit [] [] e = tt
 picks_fit [] (picked ∷ picks) e = let more : suc (length (map length picks)) ≡ 0 = ap length e in absurd (omega (arith, more))
 picks_fit (list ∷ lists) [] e = let more : 0 ≡ suc (length (map length (sets_of lists))) = ap length e in absurd (omega (arith, more))

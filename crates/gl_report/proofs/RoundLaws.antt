@@ -10,14 +10,8 @@ use Rattle.gl_match.specs.Listing.{Instance}
 use Rattle.gl_base.specs.Libraries.{Skip, Cell, Library}
 use Rattle.gl_base.specs.Rounds.{cells_at, is_searched, searched}
 use Rattle.gl_base.specs.RoundReports.{RoundPart, cell_parts, part_before, part_lines, round_lines, rounds_of}
-use Rattle.gl_report.specs.Naming.{RoundNames, IsNamed, IsReportable}
+use Rattle.gl_report.specs.Naming.{RoundNames, AreListsNamed, DoPicksFit, IsNamed, IsReportable}
 use Rattle.gl_report.specs.Pieces.{parts_text, ArePartsNamed}
-
-abbrev AreListsNamed : RoundNames → List Sub → List (List Instance) → Type 0
-AreListsNamed names cells lists = AllZip (λ cell items. All (IsNamed names cell) items) cells lists
-
-abbrev DoPicksFit : List (List Instance) → List (List Pick) → Type 0
-DoPicksFit lists picks = AllZip (λ (items : List Instance) (picked : List Pick). length picked ≡ length items) lists picks
 
 -- a cell before others
 cell_named : (names : RoundNames) (c : Sub × Cell) (cells : List (Sub × Cell)) (skip : Option Skip) (lists : List (List Instance)) (picks : List (List Pick)) → AreListsNamed names (map (λ (x : Sub × Cell). x.0) (cond (is_searched skip) (c ∷ filter (λ (x : Sub × Cell). is_searched x.1.skip) cells) (filter (λ (x : Sub × Cell). is_searched x.1.skip) cells))) lists → DoPicksFit lists picks → ((ls : List (List Instance)) (ps : List (List Pick)) → AreListsNamed names (searched cells) ls → DoPicksFit ls ps → ArePartsNamed names (cell_parts cells (zip ls ps))) → ArePartsNamed names (part_before c.0 skip (zip lists picks) (cell_parts cells))

@@ -28,10 +28,18 @@ pub record IsNamed (names : RoundNames) (cell : Sub) (i : Instance) : Type 0 whe
   pub devices_mapped : length i.least ≡ length (devices_in cell.cards)
   pub images_named : All (λ (s : Spot). s.dev < length names.devices) i.least
 
--- there is a list for each searched cell of level 0, whose instances are named, and a pick for each instance
+-- there is a list for each cell, whose instances are named
+abbrev pub AreListsNamed : RoundNames → List Sub → List (List Instance) → Type 0
+AreListsNamed names cells lists = AllZip (λ cell items. All (IsNamed names cell) items) cells lists
+
+-- there is a pick for each instance, list by list
+abbrev pub DoPicksFit : List (List Instance) → List (List Pick) → Type 0
+DoPicksFit lists picks = AllZip (λ (items : List Instance) (picked : List Pick). length picked ≡ length items) lists picks
+
+-- there is a named list for each searched cell of level 0, and a pick for each instance
 pub record IsReportable (names : RoundNames) (library : Library) (lists : List (List Instance)) (picks : List (List Pick)) : Type 0 where
-  pub lists_named : AllZip (λ cell items. All (IsNamed names cell) items) (searched (cells_at 0 library)) lists
-  pub picks_fit : AllZip (λ (items : List Instance) (picked : List Pick). length picked ≡ length items) lists picks
+  pub lists_named : AreListsNamed names (searched (cells_at 0 library)) lists
+  pub picks_fit : DoPicksFit lists picks
 
 -- the report where the first round is the only one
 abbrev pub first_report : RoundNames → Library → List (List Instance) → List (List Pick) → ℕ → List ℕ

@@ -19,5 +19,3 @@ pub use names::Names;
 pub use report::print;
 pub use unmarked::left;
 
-#[cfg(test)]
-mod tests;

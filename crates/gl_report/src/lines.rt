@@ -15,12 +15,7 @@ use gl_legal::Instance;
 use gl_match::{Memory, Pick};
 
 /// Appends the name of a searched cell, how many ports it has, and how many instances.
-fn put_counts(
-    out: &mut Vec<u8>,
-    name: &[u8],
-    ports: usize,
-    instances: usize,
-) -> Result<(), Memory>
+fn put_counts(out: &mut Vec<u8>, name: &[u8], ports: usize, instances: usize) -> Result<(), Memory>
     ensures ok { OnOk result (out.new.items ≡ out.old.items ++ join_with_byte 32 (cell_words name.now ports instances)) }
     ensures front { take (length out.old.items) out.new.items ≡ out.old.items }
 {

@@ -45,8 +45,11 @@ fn put_rounds(
     requires named { ArePartsNamed names.now (cell_parts (cells_at 0 library.now)
         (zip finds.lists.now (map (λ v. v.items) finds.picks.now))) }
     ensures ok { OnOk result (out.new.items ≡ out.old.items ++ flat_map (round_lines names.now.run)
-        (enumerate_from 0 (rounds_of library.now.cells (record { devices = names.now.devices; cells = cell_parts
-        (cells_at 0 library.now) (zip finds.entry.lists.now (map (λ v. v.items) finds.entry.picks.now)) })))) }
+        (enumerate_from 0 (rounds_of library.now.cells (record {
+          devices = names.now.devices;
+          cells = cell_parts
+              (cells_at 0 library.now) (zip finds.entry.lists.now (map (λ v. v.items) finds.entry.picks.now));
+        })))) }
     ensures front { take (length out.old.items) out.new.items ≡ out.old.items }
 {
     let cells = library.cells();
