@@ -3,7 +3,6 @@
 
 mod laws;
 mod reading_rows;
-mod reports;
 mod rounds;
 
 pub use laws::{
@@ -14,5 +13,4 @@ pub use reading_rows::{
     circuit_and_pattern_values, computed_reports_are_reports, library_refusals_in_order,
     one_cell_reports, rail_and_port_reports, several_cells_reports, stem_reports, type_reports,
 };
-pub use reports::reports_compute;
 pub use rounds::round_reports_compute;

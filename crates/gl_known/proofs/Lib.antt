@@ -3,7 +3,6 @@ pub mod CardKinds
 pub mod CardsRead
 pub mod DeckSizes
 pub mod DecksRead
-pub mod DecksTaken
 pub mod Fields
 pub mod FlatSizes
 pub mod Lines

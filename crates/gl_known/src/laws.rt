@@ -17,12 +17,6 @@ pub fn read_decks_are_known()
     ensures known { (has_title : Bool) (bytes : List ℕ) (deck : Deck) → read_deck has_title bytes ≡ Ok deck → IsKnownDeck (length bytes) deck }
 {}
 
-/// A deck of devices, and a library of one cell, that are taken from a file that is not too long.
-pub fn taken_decks_are_known()
-    ensures devices { (bytes : List ℕ) (d : DeviceDeck) → length bytes ≤ FILE → device_deck bytes ≡ Ok d → IsDeviceDeck d }
-    ensures cell { (bytes : List ℕ) (l : CellLibrary) → length bytes ≤ FILE → cell_library bytes ≡ Ok l → IsCellLibrary l }
-{}
-
 /// The flat deck of a deck as it is read has cards such as are read, and no more places than a file has bytes.
 pub fn flat_decks_are_known()
     ensures known { (deck : Deck) (rails : List (List ℕ)) (top : Option (List ℕ)) (flat : Flat)

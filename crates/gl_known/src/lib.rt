@@ -3,6 +3,4 @@
 
 mod laws;
 
-pub use laws::{
-    flat_decks_are_known, lines_are_short, read_decks_are_known, sizes, taken_decks_are_known,
-};
+pub use laws::{flat_decks_are_known, lines_are_short, read_decks_are_known, sizes};

@@ -1,4 +1,0 @@
-mod FirstLine
-mod OnceLaws
-mod EarliestLaws
-mod TakingLaws
