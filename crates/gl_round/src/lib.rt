@@ -4,8 +4,6 @@
 mod count;
 mod lists;
 mod round;
-#[cfg(test)]
-mod tests;
 
 pub use gl_cover::Pick;
 pub use gl_graph::{Circuit, Pattern};
