@@ -16,6 +16,7 @@ use Rattle.gl_run.specs.Completeness.{IsSound, IsStatus, IsComplete}
 use Rattle.gl_run.specs.Endings.{Lifts}
 use Rattle.gl_run.specs.FlatEndings.{IsFlatText, HasFlatText, IsFlatFault, Flattens, IsFlatComplete}
 use Rattle.gl_run.specs.Jobs.{Means, IsJobComplete}
+use Rattle.gl_run.proofs.LiftComplete.{lift_complete}
 
 -- what is told of what a slot held
 held_by : {X : Type 0} (o : Option X) (x : X) (P : X → Type 0) → IfSome o P → o ≡ Some x → P x
@@ -70,9 +71,6 @@ flat_complete endings.Memory d o m = record {
   done = λ b t s is works. inr refl;
 }
 flat_complete end d o m = absurd m
-
-lift_complete : (end : Ending) (d l r : Seen) → Lifts end d l r → IsComplete (status_of end) d l r
-lift_complete end d l r m = search rules
 
 -- which status comes where nothing fails, of any job
 pub complete_of : (end : Ending) (job : Option Job) (see : Slot → List ℕ → Seen) → Means end job see → IfSome job (λ j. IsJobComplete (status_of end) j see)

@@ -70,3 +70,7 @@ ok_then (Err e) f p = tt
 pub err_then : {A E : Type 0} {P Q : Type 0} (r : Result A E) → (P → Q) → OnErr r P → OnErr r Q
 err_then (Ok x) f p = tt
 err_then (Err e) f p = f p
+
+-- the same text, in other pieces
+pub limit_said : (p a c w n k e : List ℕ) → ((((p ++ a) ++ c) ++ (w ++ n)) ++ k) ++ e ≡ (p ++ ((((a ++ c) ++ w) ++ n) ++ k)) ++ e
+limit_said p a c w n k e = simp append_assoc

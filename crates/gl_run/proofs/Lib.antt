@@ -1,4 +1,5 @@
 pub mod Fronts
 pub mod Told
+pub mod LiftComplete
 pub mod Complete
 pub mod ReadDecks

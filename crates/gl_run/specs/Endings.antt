@@ -7,7 +7,7 @@ use Rattle.gl_run.specs.declared.ending.Ending.{Ending}
 use Rattle.gl_run.specs.declared.ending.Ending.TheVariants as endings
 use Rattle.gl_run.specs.Reading.{Seen, HasCause, IsLong}
 use Rattle.gl_run.specs.Refusals.{read_fault, flat_fault, library_cause}
-use Rattle.gl_run.specs.Lift.{IsReportOfBytes, IsDeck, IsLibrary, HasFlatFault}
+use Rattle.gl_run.specs.Lift.{IsReportOfBytes, IsDeck, IsLibrary, HasFlatDeck, HasFlatFault}
 
 -- both inputs were read to their ends, and the text is the report of what they held
 pub record IsMade (deck library : Seen) (text : List ℕ) : Type 0 where
@@ -15,6 +15,7 @@ pub record IsMade (deck library : Seen) (text : List ℕ) : Type 0 where
   pub library_read : IfSome library.after.left (λ rest. rest ≡ [])
   pub deck_accepted : IfSome deck.held IsDeck
   pub library_accepted : IfSome library.held IsLibrary
+  pub flattened : IfSome deck.held (λ d. IfSome library.held (λ l. HasFlatDeck d l))
   pub made : IfSome deck.held (λ d. IfSome library.held (λ l. IsReportOfBytes d l text))
 
 -- both inputs were read to their ends, and the output was given the report of what they held
@@ -23,6 +24,7 @@ pub record IsDone (deck library report : Seen) : Type 0 where
   pub library_read : IfSome library.after.left (λ rest. rest ≡ [])
   pub deck_accepted : IfSome deck.held IsDeck
   pub library_accepted : IfSome library.held IsLibrary
+  pub flattened : IfSome deck.held (λ d. IfSome library.held (λ l. HasFlatDeck d l))
   pub given : IfSome deck.held (λ d. IfSome library.held (λ l. IfSome report.after.given (λ text. IsReportOfBytes d l text)))
 
 -- the output could not be opened, or not be given the whole report
@@ -30,6 +32,7 @@ pub record IsUnwritten (deck library report : Seen) : Type 0 where
   pub cause : HasCause report
   pub deck_accepted : IfSome deck.held IsDeck
   pub library_accepted : IfSome library.held IsLibrary
+  pub flattened : IfSome deck.held (λ d. IfSome library.held (λ l. HasFlatDeck d l))
   pub front : IfSome deck.held (λ d. IfSome library.held (λ l. IfSome report.after.given (λ given.
       (text : List ℕ) × (n : ℕ) × IsReportOfBytes d l text × (given ≡ take n text))))
 

@@ -4,7 +4,7 @@ use Rattle.gl_desk.specs.declared.slot.Slot.TheVariants.{Says}
 use Rattle.gl_cells.specs.Causes.{limit_of}
 use Rattle.gl_run.specs.RefusalTexts.{limit_name, field_text}
 use Rattle.gl_run.specs.Saying.{GivesOrFails}
-use Rattle.gl_run.proofs.Fronts.{same_said, said_number}
+use Rattle.gl_run.proofs.Fronts.{same_said, said_number, limit_said}
 use Rattle.gl_run.proofs.says_library.say_library.Goals as goal
 
 pub returns-in-Read-clause-given : goal.returns-in-Read-clause-given
@@ -21,7 +21,7 @@ returns-in-CellLimit-clause-given g c =
     let number = c.in-CellLimit.number in
     let said : List ℕ = ((codes "gatelift: 3 library: 31 CellLimit cell=" ++ cell ++ (codes " what=" ++ name)) ++ (codes " number=" ++ decimal number)) ++ codes "\n" in
     let wanted : List ℕ = codes "gatelift: 3 library: " ++ (codes "31 CellLimit cell=" ++ cell ++ codes " what=" ++ name ++ field_text (codes "number", number)) ++ codes "\n" in
-    let same : said ≡ wanted = simp append_assoc in
+    let same : said ≡ wanted = limit_said (codes "gatelift: 3 library: ") (codes "31 CellLimit cell=") cell (codes " what=") name (codes " number=" ++ decimal number) (codes "\n") in
     rw c.in-CellLimit.is (same_said (g.D.Desk.shows c.args.desk.now Says) (g.D.Desk.shows c.say_limit.new.desk Says) said wanted same c.say_limit.ensures.given)
 
 pub returns-in-CellClash-clause-given : goal.returns-in-CellClash-clause-given
