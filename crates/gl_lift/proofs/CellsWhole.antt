@@ -1,12 +1,12 @@
 -- The searched cells of a library without X cards are whole.
-use Rattle.std.proofs.Common.{◌≡◌, ◌<◌, ◌≤◌, ◌+◌, ℕ, List, [], ◌∷◌, ◌++◌, length, map, cond, true, false, Bool, Option, Some, None, refl, sym, ap, ◌∙◌, subst, arith, flat_map, codes}
+use Rattle.std.proofs.Common.{◌≡◌, ◌<◌, ℕ, List, [], ◌∷◌, ◌++◌, length, map, cond, true, false, Bool, Option, Some, None, refl, sym, ap, ◌∙◌, subst, arith, flat_map}
 use Rattle.std.specs.Prelude.{filter, filter_map, zip, find, not, ◌&&◌, All, ◌==◌, option_map}
 use Rattle.std.specs.List.{list_all, AllByRecursion}
 use Rattle.std.proofs.lemmas.List.Elements.{All-from_recursion, recursion_from_All}
-use Rattle.gl_text.specs.Cards.{Device, IsDeviceCard}
-use Rattle.gl_text.specs.Decks.{Body, dev_at, call_at, Sub, is_in, has_twice}
-use Rattle.gl_text.specs.OneCell.{devices_in, call_line, earlier, earliest, is_on_card, IsCellOf}
-use Rattle.gl_base.specs.Libraries.{Skip, empty, loose, uses, Cell, cell_of, skip_of, skip_by, own_skip, uses_else, empty_else, loose_port, nodes_of}
+use Rattle.gl_text.specs.Cards.{Device}
+use Rattle.gl_text.specs.Decks.{Body, dev_at, call_at, Sub, is_in}
+use Rattle.gl_text.specs.OneCell.{devices_in, call_line, earlier, earliest, is_on_card}
+use Rattle.gl_base.specs.Libraries.{Skip, loose, Cell, cell_of, skip_of, own_skip, uses_else, empty_else, loose_port, nodes_of}
 use Rattle.gl_base.specs.Rounds.{is_searched}
 use Rattle.gl_printed.proofs.Each.{each_both, each_filter, each_map, each_passes}
 use Rattle.gl_known.specs.Known.{IsKnownSub}

@@ -1,7 +1,6 @@
 -- The nets of a flat deck by their numbers.
-use Rattle.std.proofs.Common.{◌≡◌, ◌<◌, ℕ, List, [], ◌∷◌, ◌++◌, length, map, get_or, Option, Some, refl, sym, ap, ◌∙◌, subst, flat_map}
-use Rattle.std.specs.Prelude.{All, Contains, slice_get, unwrap_or}
-use Rattle.std.specs.List.{position_or_len}
+use Rattle.std.proofs.Common.{◌≡◌, ◌<◌, ℕ, List, [], ◌∷◌, ◌++◌, length, map, Option, refl, ap, ◌∙◌, flat_map}
+use Rattle.std.specs.Prelude.{All, Contains, unwrap_or}
 use Rattle.std.proofs.lemmas.List.Elements.{All-map, All-weaker, All-contains_itself}
 use Rattle.gl_text.specs.LogicalLines.{same_text}
 use Rattle.gl_text.specs.Cards.{Device}

@@ -1,8 +1,8 @@
 -- What a flat deck has of its deck.
-use Rattle.std.proofs.Common.{◌≡◌, ◌+◌, ℕ, List, [], ◌∷◌, ◌++◌, length, map, ltb, Option, Some, None, Result, Ok, refl, sym, ap, ◌∙◌, subst, flat_map, codes}
-use Rattle.gl_text.specs.LogicalLines.{NAME, Fault, long_flat_name, long_text}
+use Rattle.std.proofs.Common.{◌≡◌, ◌+◌, ℕ, List, ◌∷◌, ◌++◌, length, map, ltb, Option, None, Ok, sym, ap, ◌∙◌, flat_map, codes}
+use Rattle.gl_text.specs.LogicalLines.{NAME, long_flat_name, long_text}
 use Rattle.gl_text.specs.Cards.{Head, Model, first_some, when, or_else}
-use Rattle.gl_text.specs.Decks.{◌>>=◌, Body, Sub, Deck}
+use Rattle.gl_text.specs.Decks.{◌>>=◌, Deck}
 use Rattle.gl_text.specs.Flattening.{DEPTH, TEXT, FlatDevice, Flat, net, top_net, top_ports, top_place, flat_devices, bearers, bearer_name, first_clash, chosen, flat_text, flatten}
 use Rattle.gl_lift.specs.FlatParts.{IsFlatOf}
 use Rattle.gl_printed.proofs.Refusals.{or_else_ok}

@@ -1,7 +1,6 @@
 -- The names of a flat deck are those of its circuit.
-use Rattle.std.proofs.Common.{◌≡◌, ℕ, List, length, map, refl, sym, ap, ◌∙◌, subst}
+use Rattle.std.proofs.Common.{◌≡◌, ℕ, List, length, sym, ap, ◌∙◌}
 use Rattle.std.proofs.lemmas.List.{length-map}
-use Rattle.gl_match.specs.Graph.{Circuit}
 use Rattle.gl_base.specs.BaseCircuit.{circuit_of, device_of, nets_of}
 use Rattle.gl_base.specs.Libraries.{Library}
 use Rattle.gl_flat.specs.Numbered.{Numbered, NumberedDevice, named_card}
@@ -16,3 +15,7 @@ names_fit f library stem h =
       devices = length-map f.devices (λ (d : NumberedDevice). d.name) ∙ sym (length-map (cards_in f) (device_of s (nets_of s.devices)) ∙ length-map f.devices (named_card f.nets));
       nets = ap length h.nets_are;
     }
+
+-- there are as many devices
+pub device_count : (f : Numbered) (library : Library) → length (circuit_of (source_in f library)).devices ≡ length f.devices
+device_count f library = let s = source_in f library in length-map (cards_in f) (device_of s (nets_of s.devices)) ∙ length-map f.devices (named_card f.nets)

@@ -1,5 +1,5 @@
 -- The report of a flat deck that is seen by numbers.
-use Rattle.std.proofs.Common.{◌≡◌, ◌++◌, ◌∷◌, [], ℕ, List, length, map, refl, sym, ap, ◌∙◌, subst}
+use Rattle.std.proofs.Common.{◌≡◌, ◌++◌, ◌∷◌, [], ℕ, List, map, refl, sym, ap, ◌∙◌, subst}
 use Rattle.std.specs.Prelude.{zip}
 use Rattle.std.proofs.lemmas.List.{length-map}
 use Rattle.gl_match.specs.declared.role.Pick.{Pick}
@@ -7,16 +7,14 @@ use Rattle.gl_match.specs.Listing.{Instance}
 use Rattle.gl_text.specs.Cards.{Device}
 use Rattle.gl_text.specs.Flattening.{Flat, FlatDevice, flat_card, device_name, top_ports}
 use Rattle.gl_base.specs.Rails.{all_rails}
-use Rattle.gl_base.specs.BaseCircuit as base
 use Rattle.gl_base.specs.BaseCircuit.{Source, circuit_of}
 use Rattle.gl_base.specs.Libraries.{Library}
 use Rattle.gl_base.specs.Stems.{IsStem, names_in}
-use Rattle.gl_base.specs.Rounds.{cards_of, source_of, cells_at, searched, cell_pattern, IsRound}
-use Rattle.gl_base.specs.RoundReports.{RunNames, RoundPart, cell_parts, rounds_of, left_of, report_text}
+use Rattle.gl_base.specs.Rounds.{cells_at, searched, cell_pattern, IsRound}
+use Rattle.gl_base.specs.RoundReports.{cell_parts, rounds_of, left_of, report_text}
 use Rattle.gl_base.specs.Lifting.{IsReport, first_round, run_names}
 use Rattle.gl_flat.specs.Numbered.{NumberedDevice, numbered, numbered_device, nets_of}
-use Rattle.gl_name.specs.FlatNames.{device_names, names_of}
-use Rattle.gl_lib.specs.Sources.{source_in}
+use Rattle.gl_name.specs.FlatNames.{names_of}
 use Rattle.gl_report.specs.Naming.{first_report}
 use Rattle.gl_lift.specs.Reported.{round_names, IsNumberedReport}
 use Rattle.gl_lift.proofs.FlatNets.{nets_are}
@@ -32,8 +30,8 @@ names_by_cards (d ∷ ds) = ap (λ ns. device_name d ∷ ns) (names_by_cards ds)
 
 same_names : (w : Flat) → names_of (numbered w) ≡ names_in w
 same_names w =
-    ap (λ ns. ns ++ (nets_of w.devices ++ (all_rails w.rails ++ top_ports w.top))) (names_numbered (nets_of w.devices) w.devices ∙ sym (names_by_cards w.devices))
-    ∙ ap (λ ns. map (λ (c : Device). c.name) (map flat_card w.devices) ++ (ns ++ (all_rails w.rails ++ top_ports w.top))) (nets_are w.devices)
+    ap (λ ns. ns ++ nets_of w.devices ++ all_rails w.rails ++ top_ports w.top) (names_numbered (nets_of w.devices) w.devices ∙ sym (names_by_cards w.devices))
+    ∙ ap (λ ns. map (λ (c : Device). c.name) (map flat_card w.devices) ++ ns ++ all_rails w.rails ++ top_ports w.top) (nets_are w.devices)
 
 same_report : (w : Flat) (library : Library) (stem : List ℕ) (lists : List (List Instance)) (picks : List (List Pick)) (left : ℕ)
     → first_report (round_names (numbered w) stem) library lists picks left ≡ report_text (run_names w stem) (rounds_of library.cells (first_round w library lists picks)) left

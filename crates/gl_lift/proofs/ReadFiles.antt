@@ -1,17 +1,16 @@
 -- What was read from files is lifted and searched.
-use Rattle.std.proofs.Common.{◌≡◌, ◌≤◌, ◌+◌, ℕ, List, [], ◌∷◌, ◌++◌, length, map, true, false, Option, Some, None, Result, Ok, Err, refl, sym, ap, ◌∙◌, subst, arith}
-use Rattle.std.specs.Prelude.{sum_by, flat_map}
+use Rattle.std.proofs.Common.{◌≡◌, ◌≤◌, ◌+◌, ℕ, List, [], ◌∷◌, ◌++◌, length, map, true, false, Option, Some, None, Result, Ok, Err, refl, sym, ap, subst, arith}
+use Rattle.std.specs.Prelude.{flat_map}
 use Rattle.gl_text.specs.LogicalLines.{Fault}
 use Rattle.gl_text.specs.Cards.{Device}
 use Rattle.gl_text.specs.Decks.{Body, dev_at, call_at, Sub, Deck, read_deck}
-use Rattle.gl_text.specs.OneCell.{devices_in, places_count}
+use Rattle.gl_text.specs.OneCell.{devices_in}
 use Rattle.gl_base.specs.Libraries.{Cause, Library, library_cause, library_of, unless, checked, read_library}
-use Rattle.gl_base.specs.Lifting.{LibraryCause, first_call, unless_call, without_calls, taken_library}
+use Rattle.gl_base.specs.Lifting.{first_call, unless_call, without_calls, taken_library}
 use Rattle.gl_printed.proofs.ReadDeckLaws.{read_fine}
-use Rattle.gl_known.specs.Known.{body_size, sub_size, deck_size, IsKnownDeck}
+use Rattle.gl_known.specs.Known.{body_size, sub_size}
 use Rattle.gl_known.proofs.Totals.{total, total_is}
 use Rattle.gl_known.proofs.DecksRead.{deck_read}
-use Rattle.gl_lib.specs.Sources.{cells_in}
 use Rattle.gl_lift.specs.Liftable.{IsLiftable, IsSearchable}
 use Rattle.gl_lift.proofs.CellsWhole.{cells_whole, without_calls as none_called}
 

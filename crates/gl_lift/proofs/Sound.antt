@@ -1,8 +1,8 @@
 -- Circuit and patterns are made of the flat deck.
-use Rattle.std.proofs.Common.{◌≡◌, ◌≤◌, ◌+◌, ℕ, List, [], ◌∷◌, length, map, Option, None, Ok, refl, sym, ap, ◌∙◌, subst, arith}
+use Rattle.std.proofs.Common.{◌≡◌, ◌≤◌, List, length, Option, None, Ok, refl, sym, ap, ◌∙◌, subst, arith}
 use Rattle.gl_text.specs.Cards.{Device, Head}
 use Rattle.gl_text.specs.Decks.{Deck}
-use Rattle.gl_text.specs.Flattening.{Flat, flat_card, flatten, top_ports}
+use Rattle.gl_text.specs.Flattening.{Flat, top_ports}
 use Rattle.gl_base.specs.Rails.{AreRails, run_rails}
 use Rattle.gl_base.specs.BaseCircuit.{Source}
 use Rattle.gl_base.specs.BaseCircuit as base
@@ -13,9 +13,8 @@ use Rattle.gl_base.specs.Lifting.{flat_deck}
 use Rattle.gl_base.proofs.TextLaws.{rails_are}
 use Rattle.gl_flat.specs.Numbered.{numbered}
 use Rattle.gl_known.proofs.FlatSizes.{flat_known}
-use Rattle.gl_lib.specs.Sources.{AreSound, source_in, cards_in, cells_in}
+use Rattle.gl_lib.specs.Sources.{AreSound, source_in, cells_in}
 use Rattle.gl_lib.proofs.RailLaws.{rails_few, rails_fine}
-use Rattle.gl_lift.specs.FlatParts.{IsFlatOf}
 use Rattle.gl_lift.specs.Liftable.{IsLiftable, IsSearchable}
 use Rattle.gl_lift.proofs.FlatParts.{flat_parts}
 use Rattle.gl_lift.proofs.FlatNets.{nets_are, nodes_below, cards_back}

@@ -1,5 +1,5 @@
 -- Decks and libraries that are lifted: as they are read, and no larger than files.
-use Rattle.std.specs.Prelude.{◌≡◌, ◌≤◌, ◌∷◌, [], length, flat_map, All, None}
+use Rattle.std.specs.Prelude.{◌≤◌, ◌∷◌, [], length, flat_map, All}
 use Rattle.std.specs.List.{AllByRecursion}
 use Rattle.gl_text.specs.Cards.{global}
 use Rattle.gl_text.specs.Decks.{Deck}

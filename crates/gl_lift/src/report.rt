@@ -67,6 +67,7 @@ fn report_of_flat(alloc: Global, flat: &Flat, library: &Library) -> Result<Vec<u
 {
     let base = base_of(alloc, flat, library)?;
     let round = round_of(alloc, base.circuit(), base.patterns(), 1)?;
+    rounds_are_reportable();
     let left = left(alloc, base.circuit().devices(), &round.lists, &round.picks)?;
     let stem = stem(alloc, flat)?;
     know_names(&base, &round, &stem, flat, library);

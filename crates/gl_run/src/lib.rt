@@ -20,6 +20,8 @@ mod writing;
 pub use ending::Ending;
 pub use flat_refusal::FlatRefusal;
 pub use job::run;
+pub use library_refusal::LibraryRefusal;
+pub use read_refusal::Refusal;
 
 #[cfg(test)]
 mod tests;

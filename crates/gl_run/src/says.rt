@@ -33,7 +33,12 @@ fn name_of(slot: Slot) -> &'static str
 }
 
 /// Gives three texts, one after another, and stops at the first call that fails.
-pub fn give_texts<D: Desk>(desk: &mut D, front: &str, middle: &[u8], end: &str) -> Result<(), Failed>
+pub fn give_texts<D: Desk>(
+    desk: &mut D,
+    front: &str,
+    middle: &[u8],
+    end: &str,
+) -> Result<(), Failed>
     requires says { (D.shows desk.old Slot.Says).used ≡ true }
     ensures ok { OnOk result (Gives (D.shows desk.old Slot.Says) (D.shows desk.new Slot.Says) (front.now ++ middle.now ++ end.now)) }
     ensures err { OnErr result (GivesFront (D.shows desk.old Slot.Says) (D.shows desk.new Slot.Says) (front.now ++ middle.now ++ end.now)) }
@@ -210,7 +215,12 @@ fn say_flat<D: Desk>(desk: &mut D, refusal: &FlatRefusal)
 {
     match refusal {
         FlatRefusal::NameClash { name } => {
-            say_texts(desk, "gatelift: 2 deck: 20 NameClash name=", name.as_bytes(), "\n")
+            say_texts(
+                desk,
+                "gatelift: 2 deck: 20 NameClash name=",
+                name.as_bytes(),
+                "\n",
+            )
         }
         FlatRefusal::LongFlatName { len } => {
             say_number(desk, "gatelift: 2 deck: 21 LongFlatName len=", *len)
@@ -220,7 +230,12 @@ fn say_flat<D: Desk>(desk: &mut D, refusal: &FlatRefusal)
             say_number(desk, "gatelift: 2 deck: 23 TooDeep number=", *number)
         }
         FlatRefusal::NoTop { name } => {
-            say_texts(desk, "gatelift: 2 deck: 24 NoTop name=", name.as_bytes(), "\n")
+            say_texts(
+                desk,
+                "gatelift: 2 deck: 24 NoTop name=",
+                name.as_bytes(),
+                "\n",
+            )
         }
         FlatRefusal::TopDevices { line } => {
             say_number(desk, "gatelift: 2 deck: 25 TopDevices line=", *line)

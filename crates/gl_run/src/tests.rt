@@ -181,7 +181,11 @@ const REPORTS: [(&str, &str, &str); 21] = [
         "round 0\ncell inv ports 2 instances 1 chosen 1\n1 xg__1 a=xg1.n y=xg_ | mp=m1 mn=m2\nleft 0\nend\n",
     ),
     // no devices, and no cells
-    ("", INV, "round 0\ncell inv ports 2 instances 0 chosen 0\nleft 0\nend\n"),
+    (
+        "",
+        INV,
+        "round 0\ncell inv ports 2 instances 0 chosen 0\nleft 0\nend\n",
+    ),
     ("r1 a b 1k\n", ".model nch nmos\n", "left 1\nend\n"),
     // devices below an X card
     (
@@ -246,8 +250,14 @@ const DECKS: [(&str, &str); 9] = [
         "r1 x1.n 0 1\n.subckt s a\nr1 a n 1\n.ends\nx1 p s\n",
         "20 NameClash name=x1.n",
     ),
-    ("r1 p q 1\nx1 p s\n.subckt s a\nr1 a 0 1\nc1 b 0 1\nr2 b vdd 1\n.ends\nc.x1.c1 p 0 1\n", "20 NameClash name=c.x1.c1"),
-    ("r1 p q 1\n.subckt s a\nx1 a s\n.ends\nx1 p s\n", "19 Recursive line=7"),
+    (
+        "r1 p q 1\nx1 p s\n.subckt s a\nr1 a 0 1\nc1 b 0 1\nr2 b vdd 1\n.ends\nc.x1.c1 p 0 1\n",
+        "20 NameClash name=c.x1.c1",
+    ),
+    (
+        "r1 p q 1\n.subckt s a\nx1 a s\n.ends\nx1 p s\n",
+        "19 Recursive line=7",
+    ),
 ];
 
 #[test]
@@ -270,7 +280,10 @@ const PORTS: &str =
 /// A library, and the refusal that is said.
 const LIBRARIES: [(&str, &str); 9] = [
     (LOOSE, "30 TopCard line=1"),
-    (".model n nmos\n.subckt s a\nr1 a 0 1\n.ends\nx1 p s\nr1 a b 1\n", "30 TopCard line=5"),
+    (
+        ".model n nmos\n.subckt s a\nr1 a 0 1\n.ends\nx1 p s\nr1 a b 1\n",
+        "30 TopCard line=5",
+    ),
     (PORTS, "31 CellLimit cell=s what=Ports number=65"),
     (
         ".subckt k p\nx1 p s\nr1 x1.n p 1\n.ends\n.subckt s a\nr1 a n 1\nr2 n 0 1\n.ends\n",
@@ -280,7 +293,10 @@ const LIBRARIES: [(&str, &str); 9] = [
         ".subckt s a\nr1 a 0 1\n.ends\n.subckt u a\nr1 a 0 1\nx1 a s\n.ends\n",
         "60 NotYet line=6",
     ),
-    (".subckt u a\nx1 a s\n.ends\n.subckt s a\nr1 a 0 1\n.ends\n", "60 NotYet line=2"),
+    (
+        ".subckt u a\nx1 a s\n.ends\n.subckt s a\nr1 a 0 1\n.ends\n",
+        "60 NotYet line=2",
+    ),
     (".subckt s a\nx1 a s\n.ends\n", "19 Recursive line=2"),
     (".subckt s a a\n.ends\n", "14 DuplicatePort line=1"),
     (".subckt s a\n", "10 OpenSubckt line=1"),
