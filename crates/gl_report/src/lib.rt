@@ -18,4 +18,3 @@ pub use laws::rounds_are_reportable;
 pub use names::Names;
 pub use report::print;
 pub use unmarked::left;
-
