@@ -1,0 +1,4 @@
+pub mod TopDevices
+pub mod TopNames
+pub mod TopChoices
+pub mod AgainLaws
