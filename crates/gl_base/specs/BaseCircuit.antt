@@ -33,6 +33,7 @@ type_in s = type_of s.deck_models s.library_models
 abbrev pub types_of : Source → List TypeName
 types_of s = each_once (map (type_in s) (s.devices ++ flat_map (λ cards. cards) s.cells))
 
+-- the number of a type
 abbrev pub type_number : List TypeName → TypeName → ℕ
 type_number types t = position_or_len (same_type t) types
 
@@ -40,6 +41,7 @@ type_number types t = position_or_len (same_type t) types
 abbrev pub device_by : (Card → TypeName) → List TypeName → List (List ℕ) → Card → Device
 device_by type types nets d = record { kind = type_number types (type d); nets = map (net_number nets) d.nodes }
 
+-- a card as a device of the circuit
 abbrev pub device_of : Source → List (List ℕ) → Card → Device
 device_of s = device_by (type_in s) (types_of s)
 

@@ -6,6 +6,7 @@ use Rattle.gl_text.specs.Flattening.{DEPTH, Bearer, net, bearers, count, one, fi
 
 -- ---- levels
 
+-- the greatest of numbers, or 0
 abbrev pub greatest : List ℕ → ℕ
 greatest [] = 0
 greatest (n ∷ ns) = max n (greatest ns)
@@ -32,6 +33,7 @@ pub data Skip : Type 0 where
   loose : List ℕ → Skip
   uses : List ℕ → Skip
 
+-- the nets on a card
 abbrev pub nodes_of : Body → List (List ℕ)
 nodes_of (dev_at line d) = d.nodes
 nodes_of (call_at line c) = c.nodes
@@ -45,9 +47,11 @@ abbrev pub empty_else : List Body → Option Skip → Option Skip
 empty_else [] skip = Some empty
 empty_else (card ∷ cards) skip = skip
 
+-- why a cell is skipped by itself, if it is
 abbrev pub own_skip : Sub → Option Skip
 own_skip cell = empty_else cell.cards (option_map loose (loose_port cell))
 
+-- a test of the cell that is called, if there is one
 abbrev pub is_called : (Sub → Bool) → Option Sub → Bool
 is_called test None = false
 is_called test (Some called) = test called
@@ -56,6 +60,7 @@ is_called test (Some called) = test called
 abbrev pub skipped_callee : (Sub → Bool) → List Sub → List Body → Option (List ℕ)
 skipped_callee is_skipped subs cards = find (λ name. is_called is_skipped (find_sub subs name)) (callees cards)
 
+-- a reason of its own, else the skipped cell that is called
 abbrev pub uses_else : Option Skip → Option (List ℕ) → Option Skip
 uses_else (Some skip) called = Some skip
 uses_else None called = option_map uses called
@@ -75,21 +80,27 @@ skip_of subs cell = skip_by (is_skipped_through subs (length subs)) subs cell
 
 -- ---- what refuses a library
 
+-- how many cells a library may have
 abbrev pub CELLS : ℕ
 CELLS = 256
 
+-- how many cards a cell may have
 abbrev pub CELL_CARDS : ℕ
 CELL_CARDS = 256
 
+-- how many ports a cell may have
 abbrev pub PORTS : ℕ
 PORTS = 64
 
+-- the greatest level
 abbrev pub LEVEL : ℕ
 LEVEL = 15
 
+-- how many cards may be below a cell
 abbrev pub CELL_EXPANDED : ℕ
 CELL_EXPANDED = 65536
 
+-- which limit is passed: of cells, of the cards, ports or level of a cell, of the cards below a cell
 pub data Limit : Type 0 where
   cells devices ports level flat : Limit
 
@@ -100,11 +111,13 @@ pub data Cause : Type 0 where
   cell_limit : List ℕ → Limit → ℕ → Cause
   cell_clash : List ℕ → List ℕ → Cause
 
+-- the first cause, if there is one
 abbrev pub first_cause : List (Option Cause) → Option Cause
 first_cause [] = None
 first_cause (None ∷ others) = first_cause others
 first_cause (Some cause ∷ others) = Some cause
 
+-- a cause, where a test says so
 abbrev pub cause_if : Bool → Cause → Option Cause
 cause_if true cause = Some cause
 cause_if false cause = None
@@ -118,12 +131,15 @@ top_cause (card ∷ cards) = Some (top_card (line_of_body card))
 abbrev pub cells_cause : List Sub → Option Cause
 cells_cause subs = option_map (λ (cell : Sub). cell_limit cell.head.name cells (CELLS + 1)) (slice_get subs CELLS)
 
+-- a cell with too many cards
 abbrev pub devices_cause : Sub → Option Cause
 devices_cause cell = cause_if (nat_lt CELL_CARDS (length cell.cards)) (cell_limit cell.head.name devices (length cell.cards))
 
+-- a cell with too many ports
 abbrev pub ports_cause : Sub → Option Cause
 ports_cause cell = cause_if (nat_lt PORTS (length cell.head.ports)) (cell_limit cell.head.name ports (length cell.head.ports))
 
+-- a cell of too great a level
 abbrev pub level_cause : List ℕ → ℕ → Option Cause
 level_cause name number = cause_if (nat_lt LEVEL number) (cell_limit name level number)
 
@@ -139,9 +155,11 @@ limit_cause subs cell = first_cause (devices_cause cell ∷ ports_cause cell ∷
 abbrev pub cell_bearers : List (List ℕ) → List Sub → Sub → List Bearer
 cell_bearers rails subs cell = flat_map bearers (flat_devices rails subs DEPTH top_place cell.cards)
 
+-- the first name that two rails or ports, nets or devices of a cell have, where it is flattened as a top
 abbrev pub clash_in : List (List ℕ) → List Sub → Sub → Option Fault
 clash_in rails subs cell = first_clash (map (λ name. net (top_net name)) (codes "0" ∷ rails ++ cell.head.ports)) (cell_bearers rails subs cell)
 
+-- a clash of flat names, said of a cell
 abbrev pub clash_of : List ℕ → Fault → Cause
 clash_of cell (name_clash name) = cell_clash cell name
 clash_of cell fault = refused fault
@@ -158,24 +176,30 @@ library_cause deck = first_cause (top_cause deck.top ∷ cells_cause deck.subs
 
 -- ---- a library
 
+-- what is told of a cell: its level, and why it is skipped, if it is
 pub record Cell : Type 0 where
   pub level : ℕ
   pub skip : Option Skip
 
+-- a library: its deck, and what is told of each subcircuit, in order
 pub record Library : Type 0 where
   pub deck : Deck
   pub cells : List Cell
 
+-- what is told of a subcircuit
 abbrev pub cell_of : List Sub → Sub → Cell
 cell_of subs cell = record { level = level_of subs cell; skip = skip_of subs cell }
 
+-- the library of a deck
 abbrev pub library_of : Deck → Library
 library_of deck = record { deck = deck; cells = map (cell_of deck.subs) deck.subs }
 
+-- a value, unless there is a cause
 abbrev pub unless : {A : Type 0} → Option Cause → A → Result A Cause
 unless None value = Ok value
 unless (Some cause) value = Err cause
 
+-- the library of a deck that was read, or the first refusal
 abbrev pub checked : Result Deck Fault → Result Library Cause
 checked (Ok deck) = unless (library_cause deck) (library_of deck)
 checked (Err fault) = Err (refused fault)

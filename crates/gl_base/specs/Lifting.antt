@@ -3,7 +3,7 @@ use Rattle.std.specs.Prelude.{◌≡◌, ℕ, List, length, map, flat_map, filte
 use Rattle.gl_text.specs.LogicalLines.{Fault}
 use Rattle.gl_text.specs.Decks.{Sub, Deck}
 use Rattle.gl_text.specs.Flattening.{Flat, device_name, flatten}
-use Rattle.gl_text.specs.OneCell.{call_line, earliest}
+use Rattle.gl_text.specs.CellCards.{call_line, earliest}
 use Rattle.gl_match.specs.declared.role.Pick.{Pick}
 use Rattle.gl_match.specs.Listing.{Instance}
 use Rattle.gl_base.specs.Libraries.{Cause, Library, read_library}
@@ -24,10 +24,12 @@ pub data LibraryCause : Type 0 where
 abbrev pub first_call : Deck → Option ℕ
 first_call deck = earliest (flat_map (λ (s : Sub). filter_map call_line s.cards) deck.subs)
 
+-- a library, unless there is a line of an X card
 abbrev pub unless_call : Option ℕ → Library → Result Library LibraryCause
 unless_call None library = Ok library
 unless_call (Some line) library = Err (not_yet line)
 
+-- a library that was read, if it has no X card
 abbrev pub without_calls : Result Library Cause → Result Library LibraryCause
 without_calls (Ok library) = unless_call (first_call library.deck) library
 without_calls (Err cause) = Err (refused cause)

@@ -2,7 +2,7 @@
 use Rattle.std.specs.Prelude.{ℕ, ◌≤◌, List, length, map, flat_map, position, Option, Some, None, All}
 use Rattle.gl_text.specs.LogicalLines.{same_text}
 use Rattle.gl_text.specs.Cards.{Device as Card, Head, IsDeviceCard}
-use Rattle.gl_text.specs.OneCell.{places_count}
+use Rattle.gl_text.specs.CellCards.{places_count}
 use Rattle.gl_match.specs.declared.role.Role.{Role}
 use Rattle.gl_match.specs.declared.role.Role.TheVariants.{Port, Rail, Inner}
 use Rattle.gl_match.specs.Graph.{Circuit, Pattern}

@@ -86,6 +86,7 @@ abbrev pub stem_from : List (List ℕ) → ℕ → ℕ → List ℕ
 stem_from names zero underscores = stem_with underscores
 stem_from names (suc more) underscores = if list_any (stands_in (stem_with underscores)) names then stem_from names more (underscores + 1) else stem_with underscores
 
+-- the first stem in no name, from no underscore to nine
 abbrev pub stem_of : List (List ℕ) → List ℕ
 stem_of names = stem_from names 9 0
 
@@ -104,6 +105,7 @@ abbrev pub report_by : Flat → Library → List (List Instance) → List ℕ
 report_by flat library lists = let picks = picks_of 1 (sets_of lists) in
     report_text (run_names flat (stem_of (names_in flat))) (rounds_of library.cells (first_round flat library lists picks)) (left_of (length flat.devices) lists picks)
 
+-- the report of a flat deck and a library, of the computed lists
 abbrev pub report_of : Flat → Library → List ℕ
 report_of flat library = report_by flat library (lists_of flat library)
 

@@ -4,7 +4,7 @@ use Rattle.std.specs.List.{AllZip}
 use Rattle.gl_text.specs.Cards.{Device as Card}
 use Rattle.gl_text.specs.Decks.{Sub}
 use Rattle.gl_text.specs.Flattening.{Flat, flat_card, top_ports}
-use Rattle.gl_text.specs.OneCell.{devices_in}
+use Rattle.gl_text.specs.CellCards.{devices_in}
 use Rattle.gl_match.specs.declared.role.Pick.{Pick}
 use Rattle.gl_match.specs.Graph.{Circuit, Pattern}
 use Rattle.gl_match.specs.Listing.{Instance, Listed}
@@ -32,6 +32,7 @@ source_of f library = record {
 abbrev pub cells_at : ℕ → Library → List (Sub × Cell)
 cells_at level library = filter (λ c. c.1.level == level) (zip library.deck.subs library.cells)
 
+-- a cell that is not skipped is searched
 abbrev pub is_searched : Option Skip → Bool
 is_searched None = true
 is_searched (Some skip) = false

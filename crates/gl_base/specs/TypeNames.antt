@@ -12,6 +12,7 @@ pub data TypeName : Type 0 where
   of_letter : ℕ → TypeName
   of_cell : List ℕ → ℕ → TypeName
 
+-- two types are the same
 abbrev pub same_type : TypeName → TypeName → Bool
 same_type (of_word a v) (of_word b w) = (a == b) && same_text v w
 same_type (of_model a m) (of_model b n) = (a == b) && same_text m n
@@ -45,6 +46,7 @@ type_of deck library = type_by (word_of (deck ++ library))
 abbrev pub letter_classes : List (ℕ × List ℕ)
 letter_classes = (109, 0 ∷ 1 ∷ 0 ∷ 2 ∷ []) ∷ (114, 0 ∷ 0 ∷ []) ∷ (99, 0 ∷ 0 ∷ []) ∷ (100, 0 ∷ 1 ∷ []) ∷ (108, 0 ∷ 1 ∷ []) ∷ (118, 0 ∷ 1 ∷ []) ∷ (105, 0 ∷ 1 ∷ []) ∷ []
 
+-- the classes of the places of a letter, by a table of letters
 abbrev pub classes_by : List (ℕ × List ℕ) → ℕ → List ℕ
 classes_by [] letter = []
 classes_by (row ∷ rows) letter = if row.0 == letter then row.1 else classes_by rows letter

@@ -3,7 +3,7 @@ ghost use Rattle.std.specs.Prelude.{◌≡◌, ◌↔◌, ℕ, List, [], ◌∷�
 ghost use Rattle.std.specs.Cmp.{IsEquivalence};
 ghost use Rattle.gl_text.specs.Cards.{Device as Card};
 ghost use Rattle.gl_text.specs.Decks.{has_twice, once};
-ghost use Rattle.gl_text.specs.OneCell.{IsCellOf};
+ghost use Rattle.gl_text.specs.CellCards.{IsCellOf};
 ghost use Rattle.gl_match.specs.declared.role.Role.TheVariants.{Port, Rail, Inner};
 ghost use Rattle.gl_base.specs.Rails.{run_rails, AreRails};
 ghost use Rattle.gl_base.specs.TypeNames.{TypeName, same_type};

@@ -4,7 +4,7 @@ use Rattle.std.specs.Prelude.{filter_map, nat_le, if◌then◌else◌}
 use Rattle.std.proofs.lemmas.Bool.Decides.{nat_tests}
 use Rattle.std.proofs.lemmas.List.{drop_more}
 use Rattle.gl_text.specs.Decks.{Sub}
-use Rattle.gl_text.specs.OneCell.{call_line, earlier, earliest}
+use Rattle.gl_text.specs.CellCards.{call_line, earlier, earliest}
 use Rattle.gl_cells.specs.FirstCalls.{call_lines}
 
 lesser_both : (a b c : ℕ) → (if nat_le (if nat_le a b then a else b) c then (if nat_le a b then a else b) else c) ≡ (if nat_le a (if nat_le b c then b else c) then a else (if nat_le b c then b else c))

@@ -6,7 +6,7 @@ use Rattle.std.proofs.lemmas.Bool.Decides.{nat_tests}
 use Rattle.std.proofs.lemmas.List.Elements.{All-cons, All-head, All-tail}
 use Rattle.gl_text.specs.LogicalLines.{FILE, Fault}
 use Rattle.gl_text.specs.Decks.{Body, dev_at, call_at, Sub, Deck, callees, is_in, read_deck}
-use Rattle.gl_text.specs.OneCell.{devices_in, IsCellOf}
+use Rattle.gl_text.specs.CellCards.{devices_in, IsCellOf}
 use Rattle.gl_printed.specs.ReadDecks.{IsReadDeck}
 use Rattle.gl_known.specs.Known.{IsKnownDeck, IsKnownSub}
 use Rattle.gl_printed.proofs.ReadDeckLaws.{read_fine}

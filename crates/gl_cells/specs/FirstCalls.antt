@@ -1,7 +1,7 @@
 -- The first X card of a deck's subcircuits.
 use Rattle.std.specs.Prelude.{ℕ, List, flat_map, filter_map, Option}
 use Rattle.gl_text.specs.Decks.{Sub, Deck}
-use Rattle.gl_text.specs.OneCell.{call_line, earliest}
+use Rattle.gl_text.specs.CellCards.{call_line, earliest}
 
 -- the lines of the X cards of subcircuits
 abbrev pub call_lines : List Sub → List ℕ

@@ -5,7 +5,7 @@ use Rattle.gl_text.specs.LogicalLines.{FILE}
 use Rattle.gl_text.specs.Cards.{IsDeviceCard}
 use Rattle.gl_text.specs.Decks.{Sub, has_twice, is_in}
 use Rattle.gl_text.specs.Flattening.{count, one}
-use Rattle.gl_text.specs.OneCell.{devices_in}
+use Rattle.gl_text.specs.CellCards.{devices_in}
 use Rattle.gl_printed.specs.ReadDecks.{IsReadDeck}
 use Rattle.gl_known.specs.Known.{IsKnownDeck}
 use Rattle.gl_base.specs.Libraries.{CELLS, CELL_CARDS, PORTS, LEVEL, CELL_EXPANDED, Cell, Library, cell_of, clash_in, level_of, nodes_of}

@@ -1,6 +1,6 @@
 //! The first X card of a library.
 ghost use Rattle.std.specs.Prelude.{◌≡◌, filter_map};
-ghost use Rattle.gl_text.specs.OneCell.{call_line, earlier as earlier_of, earliest};
+ghost use Rattle.gl_text.specs.CellCards.{call_line, earlier as earlier_of, earliest};
 ghost use Rattle.gl_deck.specs.Bodies.{bodies_value, body_value};
 ghost use Rattle.gl_cells.specs.FirstCalls.{call_lines, first_call_line};
 

@@ -1,7 +1,7 @@
 ghost use Rattle.std.specs.Prelude.{◌≡◌, ◌≤◌, ℕ, [], List, length, Ok};
 ghost use Rattle.gl_text.specs.LogicalLines.{FILE};
 ghost use Rattle.gl_text.specs.Decks.{Sub, callees};
-ghost use Rattle.gl_text.specs.OneCell.{devices_in, IsCellOf};
+ghost use Rattle.gl_text.specs.CellCards.{devices_in, IsCellOf};
 ghost use Rattle.gl_base.specs.Libraries.{Library, read_library};
 ghost use Rattle.gl_cells.specs.KnownLibraries.{IsKnownLibrary, IsSearchedCell};
 

@@ -10,8 +10,8 @@ use std::fmt::Write;
 use std::process::Abort;
 use std::test::Fail;
 
-/// The devices of the instances, list by list, and the picks that are wanted: `T` for a chosen one and
-/// `O` for one over it, each list ended by `;`.
+/// The devices of the instances, list by list, and the picks that are wanted: `taken` with the number of a chosen one,
+/// `over` with the number of one that meets it, each list ended by `;`.
 #[derive(Clone, Copy)]
 struct Row {
     name: &'static str,
@@ -68,8 +68,8 @@ fn text_of(alloc: Global, picks: &[Vec<Pick>]) -> Result<String, Fail> {
     for list in picks {
         for pick in list {
             match pick {
-                Pick::Taken(number) => write!(text, "T{number} ")?,
-                Pick::Over(number) => write!(text, "O{number} ")?,
+                Pick::Taken(number) => write!(text, "taken {number} ")?,
+                Pick::Over(number) => write!(text, "over {number} ")?,
             }
         }
         write!(text, "; ")?;
@@ -82,13 +82,13 @@ const ROWS: [Row; 12] = [
         name: "an inverter before a gate that holds its transistor",
         lists: &[&[&[0, 4]], &[&[0, 1, 2, 3]]],
         first: 1,
-        wanted: "T1 ; O1 ; ",
+        wanted: "taken 1 ; over 1 ; ",
     },
     Row {
         name: "the gate before the inverter",
         lists: &[&[&[0, 1, 2, 3]], &[&[0, 4]]],
         first: 1,
-        wanted: "T1 ; O1 ; ",
+        wanted: "taken 1 ; over 1 ; ",
     },
     Row {
         name: "no lists",
@@ -100,55 +100,55 @@ const ROWS: [Row; 12] = [
         name: "lists of no instances",
         lists: &[&[], &[&[0, 1]], &[]],
         first: 1,
-        wanted: "; T1 ; ; ",
+        wanted: "; taken 1 ; ; ",
     },
     Row {
         name: "numbers run on over the lists",
         lists: &[&[&[0, 1]], &[&[2, 3], &[4, 5]]],
         first: 1,
-        wanted: "T1 ; T2 T3 ; ",
+        wanted: "taken 1 ; taken 2 taken 3 ; ",
     },
     Row {
         name: "over two chosen ones, the lower one first",
         lists: &[&[&[0, 1], &[2, 3]], &[&[1, 2]]],
         first: 1,
-        wanted: "T1 T2 ; O1 ; ",
+        wanted: "taken 1 taken 2 ; over 1 ; ",
     },
     Row {
         name: "over two chosen ones, the higher one first",
         lists: &[&[&[4, 5]], &[&[0, 1]], &[&[1, 4]]],
         first: 1,
-        wanted: "T1 ; T2 ; O1 ; ",
+        wanted: "taken 1 ; taken 2 ; over 1 ; ",
     },
     Row {
         name: "a chosen one behind it shares its last device",
         lists: &[&[&[0, 1], &[1, 2], &[2, 3]]],
         first: 1,
-        wanted: "T1 O1 T2 ; ",
+        wanted: "taken 1 over 1 taken 2 ; ",
     },
     Row {
         name: "one set with two bindings",
         lists: &[&[&[0, 1], &[0, 1]]],
         first: 1,
-        wanted: "T1 O1 ; ",
+        wanted: "taken 1 over 1 ; ",
     },
     Row {
         name: "two lists that share all devices",
         lists: &[&[&[0, 1], &[2, 3]], &[&[0, 1], &[2, 3]]],
         first: 1,
-        wanted: "T1 T2 ; O1 O2 ; ",
+        wanted: "taken 1 taken 2 ; over 1 over 2 ; ",
     },
     Row {
         name: "numbers from 7",
         lists: &[&[&[0], &[1]], &[&[1], &[2]]],
         first: 7,
-        wanted: "T7 T8 ; O8 T9 ; ",
+        wanted: "taken 7 taken 8 ; over 8 taken 9 ; ",
     },
     Row {
         name: "the last device of the circuit is shared",
         lists: &[&[&[0, 5]], &[&[1, 5]]],
         first: 1,
-        wanted: "T1 ; O1 ; ",
+        wanted: "taken 1 ; over 1 ; ",
     },
 ];
 

@@ -6,7 +6,7 @@ use Rattle.std.proofs.lemmas.List.Elements.{All-from_recursion}
 use Rattle.gl_text.specs.LogicalLines.{Fault, title_of}
 use Rattle.gl_text.specs.Cards.{Card, dev, subckt, first_some, or_else, IsDeviceCard}
 use Rattle.gl_text.specs.Decks.{◌>>=◌, Body, dev_at, call_at, Sub, Deck, Scope, Placed, placed_from, body_of, bodies, sub_of, deck_by, left_open, call_fault, title_fault, file_lines, read_deck, is_in, has_twice, ports_of}
-use Rattle.gl_text.specs.OneCell.{devices_in}
+use Rattle.gl_text.specs.CellCards.{devices_in}
 use Rattle.gl_known.specs.Known.{IsKnownSub, IsKnownDeck}
 use Rattle.gl_known.proofs.Lines.{file_short}
 use Rattle.gl_known.proofs.Ascent.{file_rises}

@@ -4,7 +4,7 @@ use Rattle.gl_text.specs.LogicalLines.{Fault, Line}
 use Rattle.gl_text.specs.Cards.{IsDeviceCard}
 use Rattle.gl_text.specs.Decks.{Body, dev_at, call_at, Sub, Deck, is_in, has_twice}
 use Rattle.gl_text.specs.Flattening.{Flat, flat_card}
-use Rattle.gl_text.specs.OneCell.{devices_in, places_count}
+use Rattle.gl_text.specs.CellCards.{devices_in, places_count}
 
 -- ---- sizes
 

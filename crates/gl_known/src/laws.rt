@@ -2,7 +2,6 @@ ghost use Rattle.std.specs.Prelude.{◌≡◌, ◌≤◌, List, ℕ, Bool, Optio
 ghost use Rattle.gl_text.specs.LogicalLines.{FILE};
 ghost use Rattle.gl_text.specs.Decks.{Deck, file_lines, read_deck};
 ghost use Rattle.gl_text.specs.Flattening.{Flat, flatten};
-ghost use Rattle.gl_text.specs.OneCell.{DeviceDeck, CellLibrary, device_deck, cell_library, IsDeviceDeck, IsCellLibrary};
 ghost use Rattle.gl_printed.specs.FlatDecks.{AreRails};
 ghost use Rattle.gl_printed.specs.ReadDecks.{IsReadDeck};
 ghost use Rattle.gl_known.specs.Known.{line_size, deck_size, IsKnownDeck, IsKnownFlat};

@@ -6,7 +6,7 @@ use Rattle.gl_text.specs.LogicalLines.{same_text}
 use Rattle.gl_text.specs.Cards.{Device as Card, Head}
 use Rattle.gl_text.specs.Decks.{once}
 use Rattle.gl_text.specs.Flattening.{top_ports}
-use Rattle.gl_text.specs.OneCell.{devices_in, IsCellOf}
+use Rattle.gl_text.specs.CellCards.{devices_in, IsCellOf}
 use Rattle.gl_match.specs.declared.role.Role.{Role}
 use Rattle.gl_match.specs.Graph.{Circuit, Pattern, Device, FitsInto}
 use Rattle.gl_graph.specs.declared.fault.BuildFault.{BuildFault}

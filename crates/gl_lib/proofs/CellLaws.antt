@@ -7,7 +7,7 @@ use Rattle.std.proofs.lemmas.Slice.Zip.{length-zip, get_or-zip}
 use Rattle.gl_match.proofs.Lists.{in_cons, in_none, in_tail, in_map, from_map, from_filter}
 use Rattle.gl_text.specs.Cards.{Device as Card}
 use Rattle.gl_text.specs.Decks.{Sub}
-use Rattle.gl_text.specs.OneCell.{device_in, devices_in}
+use Rattle.gl_text.specs.CellCards.{device_in, devices_in}
 use Rattle.gl_deck.specs.declared.body.Body.{Body}
 use Rattle.gl_deck.specs.Bodies.{body_value, bodies_value}
 use Rattle.gl_base.specs.Libraries.{Cell, Library}

@@ -10,7 +10,7 @@ use Rattle.std.proofs.lemmas.List.Elements.{Contains-get_or}
 use Rattle.gl_match.proofs.Lists.{Once, get_map, in_map, from_map}
 use Rattle.gl_text.specs.LogicalLines.{same_text}
 use Rattle.gl_text.specs.Cards.{Device as Card, IsDeviceCard}
-use Rattle.gl_text.specs.OneCell.{places_count}
+use Rattle.gl_text.specs.CellCards.{places_count}
 use Rattle.gl_match.specs.Graph.{Device, is_some_at}
 use Rattle.gl_match.specs.Turns.{turns_of}
 use Rattle.gl_graph.specs.declared.fault.BuildFault.TheVariants.{BadRail, BadShape}

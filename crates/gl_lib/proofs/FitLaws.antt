@@ -5,7 +5,7 @@ use Rattle.std.proofs.lemmas.List.{length-map}
 use Rattle.std.proofs.lemmas.List.Elements.{All-map}
 use Rattle.gl_text.specs.LogicalLines.{same_text}
 use Rattle.gl_text.specs.Cards.{Device as Card, Head, IsDeviceCard}
-use Rattle.gl_text.specs.OneCell.{IsCellOf}
+use Rattle.gl_text.specs.CellCards.{IsCellOf}
 use Rattle.gl_match.specs.Graph.{Circuit, HasShape, IsKnownRail, FitsInto}
 use Rattle.gl_base.specs.Rails.{all_rails}
 use Rattle.gl_base.specs.TypeNames.{TypeName, type_by, word_of, classes_of}

@@ -5,7 +5,7 @@ use Rattle.std.specs.List.{list_any, position_or_len}
 use Rattle.std.proofs.lemmas.List.{drop_more, drop_all}
 use Rattle.std.proofs.lemmas.List.Sums.{fold-append, sum_by-cons}
 use Rattle.gl_text.specs.Cards.{Device as Card}
-use Rattle.gl_text.specs.OneCell.{places_count}
+use Rattle.gl_text.specs.CellCards.{places_count}
 use Rattle.gl_base.specs.Rails.{zero_rail, all_rails, AreRails}
 use Rattle.gl_base.specs.BaseCircuit.{nets_of}
 use Rattle.std.proofs.lemmas.Bool.{cases_Bool, not_from_true}

@@ -5,7 +5,7 @@ use Rattle.std.proofs.lemmas.List.Sums.{fold-append}
 use Rattle.indexmap.specs.IndexSet.{insert_key, insert_all}
 use Rattle.gl_text.specs.Cards.{Device as Card}
 use Rattle.gl_text.specs.Decks.{Sub}
-use Rattle.gl_text.specs.OneCell.{devices_in}
+use Rattle.gl_text.specs.CellCards.{devices_in}
 use Rattle.gl_base.specs.TypeNames.{TypeName, same_type, each_once}
 use Rattle.gl_base.proofs.OnceLaws.{length_once}
 use Rattle.gl_base.proofs.TypeLaws.{once_is}

@@ -10,7 +10,7 @@ use Rattle.gl_match.proofs.Lists.{Once, get_map, in_map, from_map, from_flat_map
 use Rattle.gl_match.proofs.Says.{all_says}
 use Rattle.gl_text.specs.LogicalLines.{same_text}
 use Rattle.gl_text.specs.Cards.{Device as Card}
-use Rattle.gl_text.specs.OneCell.{is_on_card}
+use Rattle.gl_text.specs.CellCards.{is_on_card}
 use Rattle.gl_match.specs.declared.role.Role.{Role}
 use Rattle.gl_match.specs.Graph.{Device, Pattern, is_some_at, is_in}
 use Rattle.gl_graph.specs.declared.fault.BuildFault.TheVariants.{BadRole, BadPort}

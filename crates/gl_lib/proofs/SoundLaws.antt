@@ -8,7 +8,7 @@ use Rattle.std.proofs.lemmas.List.Elements.{Contains-append_left, Contains-appen
 use Rattle.gl_match.proofs.Lists.{in_cons, in_none, in_flat_map}
 use Rattle.gl_text.specs.LogicalLines.{same_text}
 use Rattle.gl_text.specs.Cards.{Device as Card, Head}
-use Rattle.gl_text.specs.OneCell.{places_count, IsCellOf}
+use Rattle.gl_text.specs.CellCards.{places_count, IsCellOf}
 use Rattle.gl_graph.specs.declared.fault.BuildFault.TheVariants.{NoDevice}
 use Rattle.gl_graph.specs.Built.{circuit_size, pattern_size}
 use Rattle.gl_graph.specs.Faults.{first_in, device_fault, circuit_fault, pattern_fault}

@@ -5,7 +5,7 @@ use Rattle.std.proofs.lemmas.List.{map-append, length-map}
 use Rattle.std.proofs.lemmas.List.Sorted.{Contains-permutation, length_permutation}
 use Rattle.gl_match.proofs.Lists.{Once, split, in_head, in_tail, in_cons}
 use Rattle.gl_text.specs.Decks.{Sub}
-use Rattle.gl_text.specs.OneCell.{devices_in}
+use Rattle.gl_text.specs.CellCards.{devices_in}
 use Rattle.gl_base.specs.TypeNames.{TypeName, type_by, word_of, each_once}
 use Rattle.gl_base.specs.BaseCircuit.{types_of, type_in}
 use Rattle.gl_base.specs.Patterns.{IsSound}

@@ -3,7 +3,7 @@ use Rattle.std.specs.Prelude.{◌≡◌, ◌==◌, ◌&&◌, ℕ, ◌<◌, Bool,
 use Rattle.gl_text.specs.Cards.{Device as Card}
 use Rattle.gl_text.specs.Decks.{Sub}
 use Rattle.gl_text.specs.Flattening.{top_ports}
-use Rattle.gl_text.specs.OneCell.{devices_in, IsCellOf}
+use Rattle.gl_text.specs.CellCards.{devices_in, IsCellOf}
 use Rattle.gl_match.specs.Graph.{Device}
 use Rattle.gl_base.specs.TypeNames.{TypeName}
 use Rattle.gl_base.specs.BaseCircuit.{Source, nets_of, type_number}

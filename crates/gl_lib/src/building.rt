@@ -1,6 +1,6 @@
 //! The patterns of cells and the circuit of a deck, from the tables.
 ghost use Rattle.std.specs.Prelude.{◌≡◌, map, Contains, IfOk};
-ghost use Rattle.gl_text.specs.OneCell.{devices_in, IsCellOf};
+ghost use Rattle.gl_text.specs.CellCards.{devices_in, IsCellOf};
 ghost use Rattle.gl_base.specs.TypeNames.{classes_of};
 ghost use Rattle.gl_base.specs.BaseCircuit.{circuit_of, types_of};
 ghost use Rattle.gl_base.specs.Patterns.{pattern_of};

@@ -1,6 +1,6 @@
 //! Which cells are searched, and the devices of a cell.
 ghost use Rattle.std.specs.Prelude.{◌≡◌, ◌++◌, ◌∷◌, [], map, IfOk, OnOk};
-ghost use Rattle.gl_text.specs.OneCell.{devices_in};
+ghost use Rattle.gl_text.specs.CellCards.{devices_in};
 ghost use Rattle.gl_deck.specs.Bodies.{body_value, bodies_value};
 ghost use Rattle.gl_base.specs.Rounds.{cells_at, searched};
 ghost use Rattle.gl_lib.specs.Sources.{is_searched_at, searched_among};

@@ -4,7 +4,7 @@ ghost use Rattle.indexmap.specs.IndexMap.{get};
 ghost use Rattle.indexmap.specs.IndexSet.{insert_all};
 ghost use Rattle.gl_text.specs.LogicalLines.{same_text};
 ghost use Rattle.gl_base.specs.TypeNames.{same_type, type_by, each_once, classes_of};
-ghost use Rattle.gl_text.specs.OneCell.{devices_in};
+ghost use Rattle.gl_text.specs.CellCards.{devices_in};
 ghost use Rattle.gl_base.specs.BaseCircuit.{type_number};
 ghost use Rattle.gl_lib.specs.Sources.{cards_of_cells};
 ghost use Rattle.gl_lib.specs.Sources as flat;

@@ -2,7 +2,7 @@
 ghost use Rattle.std.specs.Prelude.{◌≡◌, ◌<◌, ℕ, List, [], ◌∷◌, None, Some, length, map, Contains};
 ghost use Rattle.std.specs.List.{AllByRecursion};
 ghost use Rattle.gl_text.specs.Cards.{Device as Card, Head as Cell, global};
-ghost use Rattle.gl_text.specs.OneCell.{IsCellOf};
+ghost use Rattle.gl_text.specs.CellCards.{IsCellOf};
 ghost use Rattle.gl_match.specs.declared.role.Role.TheVariants.{Port, Rail};
 ghost use Rattle.gl_match.specs.Graph.{FitsInto};
 ghost use Rattle.gl_base.specs.Rails.{all_rails, run_rails};

@@ -3,7 +3,7 @@ ghost use Rattle.std.specs.List.{list_any, position_or_len};
 ghost use Rattle.indexmap.specs.IndexSet.{insert_all};
 ghost use Rattle.gl_text.specs.LogicalLines.{same_text};
 ghost use Rattle.gl_text.specs.Decks.{is_in, once};
-ghost use Rattle.gl_text.specs.OneCell.{places_count};
+ghost use Rattle.gl_text.specs.CellCards.{places_count};
 ghost use Rattle.gl_base.specs.Rails.{all_rails, AreRails};
 ghost use Rattle.gl_base.specs.BaseCircuit.{nets_of, net_number};
 

@@ -5,7 +5,7 @@ use Rattle.std.specs.List.{list_all, AllByRecursion}
 use Rattle.std.proofs.lemmas.List.Elements.{All-from_recursion, recursion_from_All}
 use Rattle.gl_text.specs.Cards.{Device}
 use Rattle.gl_text.specs.Decks.{Body, dev_at, call_at, Sub, is_in}
-use Rattle.gl_text.specs.OneCell.{devices_in, call_line, earlier, earliest, is_on_card}
+use Rattle.gl_text.specs.CellCards.{devices_in, call_line, earlier, earliest, is_on_card}
 use Rattle.gl_base.specs.Libraries.{Skip, loose, Cell, cell_of, skip_of, own_skip, uses_else, empty_else, loose_port, nodes_of}
 use Rattle.gl_base.specs.Rounds.{is_searched}
 use Rattle.gl_printed.proofs.Each.{each_both, each_filter, each_map, each_passes}

@@ -4,7 +4,7 @@ use Rattle.std.specs.Prelude.{flat_map}
 use Rattle.gl_text.specs.LogicalLines.{Fault}
 use Rattle.gl_text.specs.Cards.{Device}
 use Rattle.gl_text.specs.Decks.{Body, dev_at, call_at, Sub, Deck, read_deck}
-use Rattle.gl_text.specs.OneCell.{devices_in}
+use Rattle.gl_text.specs.CellCards.{devices_in}
 use Rattle.gl_base.specs.Libraries.{Cause, Library, library_cause, library_of, unless, checked, read_library}
 use Rattle.gl_base.specs.Lifting.{first_call, unless_call, without_calls, taken_library}
 use Rattle.gl_printed.proofs.ReadDeckLaws.{read_fine}

@@ -3,7 +3,7 @@ use Rattle.std.specs.Prelude.{◌≤◌, ◌∷◌, [], length, flat_map, All}
 use Rattle.std.specs.List.{AllByRecursion}
 use Rattle.gl_text.specs.Cards.{global}
 use Rattle.gl_text.specs.Decks.{Deck}
-use Rattle.gl_text.specs.OneCell.{places_count}
+use Rattle.gl_text.specs.CellCards.{places_count}
 use Rattle.gl_base.specs.Libraries.{Library}
 use Rattle.gl_base.specs.Rounds.{cells_at, searched}
 use Rattle.gl_printed.specs.ReadCards.{IsFine}

@@ -22,6 +22,7 @@ abbrev pub subs_around : Option Head → List Body → List Sub
 subs_around None cards = []
 subs_around (Some head) cards = record { line = 0; head = head; cards = cards } ∷ []
 
+-- where a subcircuit is the top, no device stands outside it
 abbrev pub top_without : Option Head → List Body → List Body
 top_without None cards = cards
 top_without (Some head) cards = []

@@ -82,6 +82,7 @@ abbrev pub unnumbered_body : Body → Body
 unnumbered_body (dev_at line d) = dev_at 0 d
 unnumbered_body (call_at line c) = call_at 0 c
 
+-- a subcircuit without line numbers
 abbrev pub unnumbered_sub : Sub → Sub
 unnumbered_sub s = record { line = 0; head = s.head; cards = map unnumbered_body s.cards }
 

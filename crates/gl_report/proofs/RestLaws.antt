@@ -13,7 +13,7 @@ use Rattle.gl_match.specs.Listing.{Instance}
 use Rattle.gl_base.specs.Libraries.{Skip, Cell}
 use Rattle.gl_base.specs.Reports.{part, parts, name_at}
 use Rattle.gl_text.specs.Cards.{Device as Card}
-use Rattle.gl_text.specs.OneCell.{devices_in}
+use Rattle.gl_text.specs.CellCards.{devices_in}
 use Rattle.gl_base.specs.RoundReports.{CellPart, part_lines, part_before, cell_parts}
 use Rattle.gl_report.specs.Naming.{RoundNames}
 use Rattle.gl_report.specs.Pieces.{behind_blanks, spot_parts, behind_card, parts_text, IsPartNamed, ArePartsNamed, told_of, untold_by, told, untold}

@@ -2,7 +2,7 @@
 use Rattle.std.specs.Prelude.{◌≡◌, ◌<◌, ℕ, List, length, All}
 use Rattle.std.specs.List.{AllZip, zip}
 use Rattle.gl_text.specs.Decks.{Sub}
-use Rattle.gl_text.specs.OneCell.{devices_in}
+use Rattle.gl_text.specs.CellCards.{devices_in}
 use Rattle.gl_match.specs.declared.spot.Spot.{Spot}
 use Rattle.gl_match.specs.declared.role.Pick.{Pick}
 use Rattle.gl_match.specs.Graph.{Circuit}

@@ -4,4 +4,4 @@ pub mod Decks
 pub mod Flattening
 pub mod WayBack
 pub mod Levels
-pub mod OneCell
+pub mod CellCards

@@ -5,11 +5,11 @@ ghost use Rattle.gl_text.specs.Decks.{read_deck, Sub, reaches};
 ghost use Rattle.gl_text.specs.WayBack.{IsCall, IsDevice};
 ghost use Rattle.gl_text.specs.Levels.{Down};
 ghost use Rattle.gl_text.specs.Flattening.{flat_job};
-ghost use Rattle.gl_text.specs.OneCell.{device_deck, cell_library, refused, not_yet};
 
 /// Some cards.
 pub fn rows()
     ensures fields { all_fields (codes "M1 OUT,IN (VDD VDD) PCH  W=4U") ≡ codes "m1" ∷ codes "out" ∷ codes "in" ∷ codes "vdd" ∷ codes "vdd" ∷ codes "pch" ∷ codes "w" ∷ codes "4u" ∷ [] }
+    ensures letters_alone_are_folded { all_fields (codes "R@AZ[ MZ`z{ q 1") ≡ codes "r@az[" ∷ codes "mz`z{" ∷ codes "q" ∷ codes "1" ∷ [] }
     ensures short { read_card (record { line = 2; text = codes "m1 a b c nch" }) ≡ Err (short_card 2 5 6) }
     ensures unknown { read_card (record { line = 2; text = codes "q1 c b e mod" }) ≡ Err (unknown_card 2 113) }
     ensures control { read_card (record { line = 2; text = codes ".control" }) ≡ Err (control_block 2) }
@@ -80,24 +80,11 @@ pub fn a_device_is_fine()
     ensures { IsDevice 114 (codes "1") (codes "a" ∷ codes "b" ∷ []) None (codes "1k") }
 {}
 
+/// Refusals at the limits of tails and flat names, and among them the one that comes first.
 pub fn more_rows()
     ensures tail { flat_job None (codes "t\nr1 a b " ++ replicate 65537 97) ≡ Err (long_tail 2 65537) }
     ensures both { flat_job None (codes "t\nr1 a b 1\nr1 a b " ++ replicate 65537 97) ≡ Err (duplicate_name 3 2) }
     ensures x { flat_job None (codes "t\nx1 a b s w=1\n") ≡ Err (parameters 2) }
     ensures flat_name { flat_job None (codes "t\n.subckt s a\nr1 a " ++ replicate 1022 110 ++ codes " 1\n.ends\nx1 p s\n") ≡ Err (long_flat_name 1025) }
     ensures device_clash { flat_job None (codes "t\n.subckt s a\nr1 a 0 1\n.ends\nx1 p s\nr.x1.r1 p 0 1\n") ≡ Err (name_clash (codes "r.x1.r1")) }
-{}
-
-/// Decks and libraries that are not taken yet.
-pub fn takings()
-    ensures devices { device_deck (codes "t\nr1 a b 1k\n.global vdd\n") ≡ Ok (record { globals = codes "vdd" ∷ []; models = []; devices = record { name = codes "r1"; nodes = codes "a" ∷ codes "b" ∷ []; model = None; tail = codes "1k" } ∷ [] }) }
-    ensures loose { device_deck (codes "t\n+ x\n") ≡ Err (refused (loose_plus 2)) }
-    ensures call_first { device_deck (codes "t\nr1 a b 1k\nx1 a s\n.subckt s a\n.ends\n") ≡ Err (not_yet 3) }
-    ensures subckt_first { device_deck (codes "t\n.subckt s a\n.ends\nx1 a s\n") ≡ Err (not_yet 2) }
-    ensures cell { cell_library (codes ".subckt s a\nr1 a 0 1k\n.ends\n.options x\n") ≡ Ok (record { globals = []; models = []; head = record { name = codes "s"; ports = codes "a" ∷ [] }; devices = record { name = codes "r1"; nodes = codes "a" ∷ codes "0" ∷ []; model = None; tail = codes "1k" } ∷ [] }) }
-    ensures none { cell_library (codes ".model n nmos\n\n") ≡ Err (not_yet 3) }
-    ensures hollow { cell_library (codes ".subckt s a\n.ends\n") ≡ Err (not_yet 1) }
-    ensures port_on_no_card { cell_library (codes "\n.subckt s a b\nr1 a 0 1k\n.ends\n") ≡ Err (not_yet 2) }
-    ensures second { cell_library (codes ".subckt s a b\nr1 a 0 1k\n.ends\n.subckt u a\nr1 a 0 1k\n.ends\n") ≡ Err (not_yet 4) }
-    ensures top { cell_library (codes "r1 a b 1\n.subckt s a\n.ends\n") ≡ Err (not_yet 1) }
 {}

@@ -1,6 +1,6 @@
 use Rattle.std.proofs.Common.{◌≡◌, drop}
 use Rattle.std.specs.Prelude.{filter_map}
-use Rattle.gl_text.specs.OneCell.{call_line, earlier, earliest}
+use Rattle.gl_text.specs.CellCards.{call_line, earlier, earliest}
 use Rattle.gl_deck.specs.Bodies.{bodies_value}
 use Rattle.gl_cells.proofs.calls.first_of_cards.Given as goal
 

@@ -1,7 +1,7 @@
 use Rattle.std.proofs.Common.{◌+◌, ◌∙◌, ℕ, List, Option, ap, drop}
 use Rattle.std.specs.Prelude.{filter_map}
 use Rattle.gl_text.specs.Decks.{Body}
-use Rattle.gl_text.specs.OneCell.{call_line, earlier, earliest}
+use Rattle.gl_text.specs.CellCards.{call_line, earlier, earliest}
 use Rattle.gl_cells.specs.FirstCalls.{call_lines}
 use Rattle.gl_cells.proofs.EarliestLaws.{calls_step}
 use Rattle.gl_cells.proofs.calls.first_of_cells.Goals as goal

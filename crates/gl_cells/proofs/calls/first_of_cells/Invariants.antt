@@ -1,5 +1,5 @@
 use Rattle.std.proofs.Common.{◌≡◌, drop}
-use Rattle.gl_text.specs.OneCell.{earlier, earliest}
+use Rattle.gl_text.specs.CellCards.{earlier, earliest}
 use Rattle.gl_cells.specs.FirstCalls.{call_lines}
 use Rattle.gl_cells.proofs.calls.first_of_cells.Given as goal
 

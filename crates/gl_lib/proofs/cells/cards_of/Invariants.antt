@@ -1,5 +1,5 @@
 use Rattle.std.proofs.Common.{◌≡◌, ◌++◌, drop, map}
-use Rattle.gl_text.specs.OneCell.{devices_in}
+use Rattle.gl_text.specs.CellCards.{devices_in}
 use Rattle.gl_deck.specs.Bodies.{bodies_value}
 use Rattle.gl_lib.proofs.cells.cards_of.Given as goal
 
