@@ -1,12 +1,12 @@
 //! Laws over the definitions: each is the contract of a function that does nothing.
-ghost use Rattle.std.specs.Prelude.{◌≡◌, ◌↔◌, ℕ, List, [], ◌∷◌, Some, None, codes, false, true, Contains, slice_get};
+ghost use Rattle.std.specs.Prelude.{◌≡◌, ◌↔◌, ℕ, List, [], ◌∷◌, Some, None, codes, false, true, Contains, slice_get, map};
 ghost use Rattle.std.specs.Cmp.{IsEquivalence};
 ghost use Rattle.gl_text.specs.Cards.{Device as Card};
 ghost use Rattle.gl_text.specs.Decks.{has_twice, once};
 ghost use Rattle.gl_text.specs.CellCards.{IsCellOf};
 ghost use Rattle.gl_match.specs.declared.role.Role.TheVariants.{Port, Rail, Inner};
 ghost use Rattle.gl_base.specs.Rails.{run_rails, AreRails};
-ghost use Rattle.gl_base.specs.TypeNames.{TypeName, same_type};
+ghost use Rattle.gl_base.specs.TypeNames.{TypeName, same_type, classes_of, of_letter, of_cell};
 ghost use Rattle.gl_base.specs.BaseCircuit.{circuit_of, nets_of, net_number};
 ghost use Rattle.gl_base.specs.Patterns.{pattern_of, IsSound};
 ghost use Rattle.gl_base.specs.Rows.{one_inverter, inverter_head, inverter_cell, one_pass_gate, pass_gate_head, pass_gate_cell, mixed, mixed_head, mixed_cell};
@@ -84,6 +84,12 @@ pub fn rails_differ()
 /// The number of the net at a place of a device leads back to the name there.
 pub fn numbers_lead_back()
     ensures name { (devices : List Card) (card : Card) (name : List ℕ) → Contains devices card → Contains card.nodes name → slice_get (nets_of devices) (net_number (nets_of devices) name) ≡ Some name }
+{}
+
+/// The classes of the places of each letter, and of a cell of three ports.
+pub fn classes_of_places()
+    ensures letters { map (λ letter. classes_of (of_letter letter)) (109 ∷ 100 ∷ 114 ∷ 99 ∷ 108 ∷ 118 ∷ 105 ∷ []) ≡ (0 ∷ 1 ∷ 0 ∷ 2 ∷ []) ∷ (0 ∷ 1 ∷ []) ∷ (0 ∷ 0 ∷ []) ∷ (0 ∷ 0 ∷ []) ∷ (0 ∷ 1 ∷ []) ∷ (0 ∷ 1 ∷ []) ∷ (0 ∷ 1 ∷ []) ∷ [] }
+    ensures cell { classes_of (of_cell (codes "inv") 3) ≡ 0 ∷ 1 ∷ 2 ∷ [] }
 {}
 
 /// The test of types is true of equal types alone, and an equivalence.

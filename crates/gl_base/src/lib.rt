@@ -6,8 +6,8 @@ mod reading_rows;
 mod rounds;
 
 pub use laws::{
-    inverter_rows, mixed_rows, names_stand_once, numbers_lead_back, pass_gate_rows, rail_rows,
-    rails_differ, same_types_are_equal,
+    classes_of_places, inverter_rows, mixed_rows, names_stand_once, numbers_lead_back,
+    pass_gate_rows, rail_rows, rails_differ, same_types_are_equal,
 };
 pub use reading_rows::{
     circuit_and_pattern_values, computed_reports_are_reports, library_refusals_in_order,

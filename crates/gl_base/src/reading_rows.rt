@@ -15,7 +15,7 @@ ghost use Rattle.gl_base.specs.BaseCircuit.{circuit_of};
 ghost use Rattle.gl_base.specs.Libraries.{Library, read_library, library_cause, top_card, cell_limit, cell_clash, devices, ports, empty, loose, uses};
 ghost use Rattle.gl_base.specs.Lifting.{flat_deck, IsReport};
 ghost use Rattle.gl_base.specs.Rounds.{source_of, cells_at, searched, cell_pattern};
-ghost use Rattle.gl_base.specs.RoundReports.{cell_parts, skipped};
+ghost use Rattle.gl_base.specs.RoundReports.{cell_parts, part_lines, skipped};
 ghost use Rattle.gl_base.specs.Rows.{resistor};
 ghost use Rattle.gl_base.specs.Stems.{IsStem};
 ghost use Rattle.gl_base.specs.RoundRows.{Reads, Accepted, Reported, report_of, is_checked, is_listed, lists_of, stands_in, stem_of, models, inverter, nand, pass_gate, parallel, vdd_rail};
@@ -88,6 +88,8 @@ pub fn rail_and_port_reports()
         (codes "round 0\ncell two ports 2 instances 6 chosen 1\n1 xg1 p=a q=b | r1=r1 r2=r2\n2 over xg1 p=b q=a | r1=r2 r2=r1\n3 over xg1 p=a q=c | r1=r1 r2=r3\n4 over xg1 p=c q=a | r1=r3 r2=r1\n5 over xg1 p=b q=c | r1=r2 r2=r3\n6 over xg1 p=c q=b | r1=r3 r2=r2\nleft 1\nend\n") }
     ensures inner_net_of_that_name { Reported (codes "t\nr1 a w 1\nr2 w b 1\nr3 w c 1\n") (codes ".subckt two p q\nr1 p w\nr2 w q\n.ends\n")
         (codes "round 0\ncell two ports 2 instances 0 chosen 0\nleft 3\nend\n") }
+    ensures inner_net_may_not_be_a_rail { Reported (codes "t\nr1 a 0 1\nr2 0 b 1\n") (codes ".subckt two p q\nr1 p w\nr2 w q\n.ends\n")
+        (codes "round 0\ncell two ports 2 instances 0 chosen 0\nleft 2\nend\n") }
     ensures rail_of_the_library_below_the_top { Reported (codes "t\n.model nch nmos\n.model pch pmos\n.subckt s i o\nm1 o i vdd vdd pch\nm2 o i 0 0 nch\n.ends\nx1 in out s\n") (vdd_rail ++ inverter)
         (codes "round 0\ncell inv ports 2 instances 1 chosen 1\n1 xg1 a=in y=out | mp=m.x1.m1 mn=m.x1.m2\nleft 0\nend\n") }
     ensures no_rail_below_the_top { Reported (codes "t\n.model nch nmos\n.model pch pmos\n.subckt s i o\nm1 o i vdd vdd pch\nm2 o i 0 0 nch\n.ends\nx1 in out s\n") (codes ".subckt inv a y vdd\nmp y a vdd vdd pch\nmn y a 0 0 nch\n.ends\n")
@@ -156,6 +158,9 @@ pub fn circuit_and_pattern_values()
         (λ f. ((circuit_of (source_of f l)).pinned ≡ 0 ∷ 2 ∷ 1 ∷ []) × (lists_of f l ≡ [] ∷ []))) }
     ensures cells_above { IsOkAnd (read_library (vdd_rail ++ codes ".subckt fill v\n.ends\n.subckt odd a b\nr1 a 0 1\n.ends\n.subckt dbl v\nx1 v fill\n.ends\n" ++ inverter)) (λ (l : Library). (map (λ (s : Sub). s.head.name) (searched (cells_at 0 l)) ≡ codes "inv" ∷ [])
         × (cell_parts (cells_at 1 l) [] ≡ skipped (codes "dbl") (uses (codes "fill")) ∷ []) × (cell_parts (cells_at 0 l) [] ≡ skipped (codes "fill") empty ∷ skipped (codes "odd") (loose (codes "b")) ∷ [])) }
+    ensures first_loose_port { IsOkAnd (read_library (codes ".subckt odd a b c\nr1 b 0 1\n.ends\n")) (λ (l : Library). l.cells ≡ record { level = 0; skip = Some (loose (codes "a")) } ∷ []) }
+    ensures first_skipped_callee { IsOkAnd (read_library (codes ".subckt f\n.ends\n.subckt g\n.ends\n.subckt k\nx1 g\nx2 f\n.ends\n")) (λ (l : Library). l.cells ≡ record { level = 0; skip = Some empty } ∷ record { level = 0; skip = Some empty } ∷ record { level = 1; skip = Some (uses (codes "g")) } ∷ []) }
+    ensures reason_of_a_caller { part_lines (record { stem = []; nets = [] }) [] (skipped (codes "dbl") (uses (codes "fill"))) ≡ codes "cell dbl skipped uses fill\n" }
 {}
 
 /// Libraries that are refused, where more than one cause is there.

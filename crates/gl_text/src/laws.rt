@@ -1,5 +1,5 @@
-ghost use Rattle.std.specs.Prelude.{◌++◌, replicate, ◌<◌, false, Option, true, ◌≡◌, List, ℕ, codes, Ok, Err, map, Some, None, [], ◌∷◌};
-ghost use Rattle.gl_text.specs.LogicalLines.{tail_of, short_card, fields_of, unknown_card, control_block, nested_subckt, recursive, loose_plus, name_clash, loose_ends, wrong_ends, open_subckt, local_card, parameters, duplicate_name, duplicate_port, zero_port, unknown_subckt, wrong_node_count, no_top, top_devices, long_tail, long_flat_name};
+ghost use Rattle.std.specs.Prelude.{◌++◌, replicate, is_ok, ◌<◌, false, Option, true, ◌≡◌, List, ℕ, codes, Ok, Err, map, Some, None, [], ◌∷◌};
+ghost use Rattle.gl_text.specs.LogicalLines.{tail_of, long_name, short_card, fields_of, unknown_card, control_block, nested_subckt, recursive, loose_plus, name_clash, loose_ends, wrong_ends, open_subckt, local_card, parameters, duplicate_name, duplicate_port, zero_port, unknown_subckt, wrong_node_count, no_top, top_devices, long_tail, long_flat_name};
 ghost use Rattle.gl_text.specs.Cards.{call, dev, read_card, all_fields, printed, card_of};
 ghost use Rattle.gl_text.specs.Decks.{read_deck, Sub, reaches};
 ghost use Rattle.gl_text.specs.WayBack.{IsCall, IsDevice};
@@ -14,6 +14,22 @@ pub fn rows()
     ensures unknown { read_card (record { line = 2; text = codes "q1 c b e mod" }) ≡ Err (unknown_card 2 113) }
     ensures control { read_card (record { line = 2; text = codes ".control" }) ≡ Err (control_block 2) }
     ensures parentheses_and_commas { printed (card_of (codes "M1 OUT,IN (VDD VDD) PCH  W=4U L=1U")) ≡ codes "m1 out in vdd vdd pch W=4U L=1U" }
+{}
+
+/// Tails: blanks at the ends go, runs of them are one space, and separators before the tail are none of it.
+pub fn tail_rows()
+    ensures squeezed { tail_of (codes " ,)a \t b\r ") ≡ codes "a b" }
+    ensures inside { tail_of (codes "w=(1,  2)") ≡ codes "w=(1, 2)" }
+    ensures nothing { tail_of (codes " \t\r") ≡ [] }
+{}
+
+/// Names at their limit, and the fields that a card does not look at.
+pub fn name_rows()
+    ensures long { read_card (record { line = 2; text = codes "r" ++ replicate 1024 97 ++ codes " b" }) ≡ Err (long_name 2 1025) }
+    ensures longest { all_fields (printed (card_of (codes "r" ++ replicate 1023 97 ++ codes " b c 1"))) ≡ (codes "r" ++ replicate 1023 97) ∷ codes "b" ∷ codes "c" ∷ codes "1" ∷ [] }
+    ensures byte_as_written { read_deck true (codes "t\nQ1 c b e mod\n") ≡ Err (unknown_card 2 81) }
+    ensures ignored_field { is_ok (read_deck true (codes "t\n.subckt s a\n.ends s " ++ replicate 1025 110 ++ codes "\n")) ≡ true }
+    ensures open_before_unknown { read_deck true (codes "t\nx1 a b s\n.subckt u a\n") ≡ Err (open_subckt 3) }
 {}
 
 /// Some decks.
@@ -40,6 +56,13 @@ pub fn flats()
     ensures clash { flat_job None (codes "clash\n.subckt s a\nr1 a n 1k\nr2 n 0 1k\n.ends\nx1 p s\nr3 x1.n 0 2k\n.end\n") ≡ Err (name_clash (codes "x1.n")) }
     ensures nest { flat_job None (codes "nest\n.subckt cellb p\nm3 p n 0 0 nch w=1u\nc1 n 0 1p\n.ends\n.subckt cella q\nx1 q cellb\n.ends\nx2 top1 cella\n.end\n")
         ≡ Ok (codes "nest\nm.x2.x1.m3 top1 x2.x1.n 0 0 nch w=1u\nc.x2.x1.c1 x2.x1.n 0 1p\n.end\n") }
+{}
+
+/// Rails: a port comes before the rail of its name, and rails and ports of the top stand before all other nets.
+pub fn rail_rows()
+    ensures port_before_rail { flat_job None (codes "t\n.global vdd\n.subckt s vdd\nr1 vdd 0 1\n.ends\nx1 p s\n") ≡ Ok (codes "t\n.global vdd\nr.x1.r1 p 0 1\n.end\n") }
+    ensures rail_clash { flat_job None (codes "t\n.global x1.n\n.subckt s a\nr1 a n 1\n.ends\nx1 p s\n") ≡ Err (name_clash (codes "x1.n")) }
+    ensures port_clash { flat_job (Some (codes "s")) (codes "t\n.subckt s a x1.n\nx1 a u\n.ends\n.subckt u b\nr1 b n 1\n.ends\n") ≡ Err (name_clash (codes "x1.n")) }
 {}
 
 /// Decks of which one subcircuit is the top.
