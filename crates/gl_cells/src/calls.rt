@@ -1,8 +1,9 @@
 //! The first X card of a library.
 ghost use Rattle.std.specs.Prelude.{◌≡◌, filter_map};
 ghost use Rattle.gl_text.specs.CellCards.{call_line, earlier as earlier_of, earliest};
+ghost use Rattle.gl_base.specs.Lifting.{first_call as first_call_of};
 ghost use Rattle.gl_deck.specs.Bodies.{bodies_value, body_value};
-ghost use Rattle.gl_cells.specs.FirstCalls.{call_lines, first_call_line};
+ghost use Rattle.gl_cells.specs.FirstCalls.{call_lines};
 
 use crate::{Body, Library, Sub};
 
@@ -52,7 +53,7 @@ fn first_of_cells(cells: &[Sub]) -> Option<u32>
 impl Library {
     /// The earliest line of an X card, from 1, if there is one.
     pub fn first_call(&self) -> Option<u32>
-        ensures first { result ≡ first_call_line self.now.deck }
+        ensures first { result ≡ first_call_of self.now.deck }
     {
         first_of_cells(self.deck().subs().values().as_slice())
     }
