@@ -9,8 +9,7 @@ ghost use Rattle.gl_flat.specs.Ways.{IsScene, PortsDiffer};
 
 use crate::clash::refuse_clash;
 use crate::flattening::{expanded, name_set, port_sets};
-use crate::named::Named;
-use crate::naming::named_devices;
+use crate::reached::Reached;
 use crate::scene::Scene;
 use crate::{FlatFault, Name, Sub};
 use indexmap::IndexMap;
@@ -22,7 +21,7 @@ fn clash_among<'a>(
     zero: &'a Name,
     rails: &'a [Name],
     ports: &'a [Name],
-    devices: &[Named<'a>],
+    devices: &[Reached<'a>],
 ) -> Result<Option<Name>, AllocError>
     requires zero { zero.now ≡ codes "0" }
     ensures clash { IfOk result (λ name. option_map name_clash name ≡ clash_in rails.now ports.now devices.now) }
@@ -46,7 +45,7 @@ fn clash_of_cell<'a>(
     requires scene { IsScene scene.now }
     ensures clash { IfOk result (λ name. option_map name_clash name ≡ clash_in rails.now cell.now.head.ports (flat_devices scene.now.rails.now.keys (values scene.now.subs.now) MOST_CALLS top_place cell.now.cards)) }
 {
-    let devices = named_devices(alloc, expanded(alloc, scene, cell.cards())?)?;
+    let devices = expanded(alloc, scene, cell.cards())?;
     clash_among(alloc, zero, rails, cell.head().ports(), &devices)
 }
 

@@ -3,9 +3,8 @@ ghost use Rattle.gl_text.specs.Flattening.{bearers, first_clash, net, top_net};
 ghost use Rattle.gl_flat.specs.Refusals.{IsFound, IsRefusal, fault_of};
 ghost use Rattle.gl_flat.specs.SeenNames.{nothing_seen, seen_all};
 
-use crate::named::Named;
-use crate::naming::named_net;
 use crate::net::Net;
+use crate::reached::Reached;
 use crate::seen::Seen;
 use crate::{FlatFault, Name};
 use std::alloc::Global;
@@ -19,7 +18,7 @@ fn add_top<'a>(alloc: Global, seen: &mut Seen<'a>, name: &'a Name) -> Result<(),
         path: Vec::new(alloc),
         name,
     };
-    seen.add_net(alloc, &named_net(alloc, top)?)
+    seen.add_net(alloc, &top)
 }
 
 /// Adds nets of the top.
@@ -58,7 +57,7 @@ pub fn refuse_clash<'a>(
     zero: &'a Name,
     rails: &'a [Name],
     ports: &'a [Name],
-    devices: &[Named<'a>],
+    devices: &[Reached<'a>],
 ) -> Result<(), FlatFault>
     requires zero { zero.now ≡ codes "0" }
     ensures ok { OnOk result (first_clash (map (λ n. net (top_net n)) (codes "0" ∷ rails.now ++ ports.now)) (flat_map bearers devices.now) ≡ None) }

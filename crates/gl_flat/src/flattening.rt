@@ -20,8 +20,6 @@ use crate::copy::{model_copies, name_copies, name_copy, text_copies, top_copy};
 use crate::expand::expand;
 use crate::length::text_length;
 use crate::long::first_long;
-use crate::named::Named;
-use crate::naming::named_devices;
 use crate::number::{net_names, numbered_all};
 use crate::reached::Reached;
 use crate::scene::Scene;
@@ -104,7 +102,7 @@ fn refuse_text(
 }
 
 /// Refuses the first flat name that is too long.
-fn refuse_long(devices: &[Named<'_>]) -> Result<(), FlatFault>
+fn refuse_long(devices: &[Reached<'_>]) -> Result<(), FlatFault>
     requires short { AreCountable (flat_map bearers devices.now) }
     ensures ok { OnOk result (long_in (flat_map bearers devices.now) ≡ None) }
     ensures refused { IfErr result (λ fault. IsFound (fault_of fault) (long_in (flat_map bearers devices.now))) }
@@ -131,7 +129,7 @@ fn flat_of(
     deck: &Deck,
     rails: &[Name],
     head: Option<&Head>,
-    devices: &[Named<'_>],
+    devices: &[Reached<'_>],
 ) -> Result<Flat, AllocError>
     requires few { length (nets_of devices.now) < 2 ^ 32 }
     ensures flat { IfOk result (λ f. f ≡ numbered (flat_with deck.now rails.now (option_copied head.entry) devices.now)) }
@@ -156,16 +154,15 @@ fn judged<'a>(
     deck: &Deck,
     rails: &'a [Name],
     head: Option<&'a Head>,
-    devices: Vec<Reached<'a>>,
+    devices: &[Reached<'a>],
 ) -> Result<Flat, FlatFault>
     requires zero { zero.now ≡ codes "0" }
-    ensures gives { Gives result (judged_by deck.now rails.now (option_copied head.entry) devices.entry.items) }
+    ensures gives { Gives result (judged_by deck.now rails.now (option_copied head.entry) devices.now) }
 {
-    refuse_text(deck, rails, head, &devices)?;
-    let named = named_devices(alloc, devices)?;
-    refuse_long(&named)?;
-    refuse_clash(alloc, zero, rails, ports_of(head), &named)?;
-    Ok(flat_of(alloc, deck, rails, head, &named)?)
+    refuse_text(deck, rails, head, devices)?;
+    refuse_long(devices)?;
+    refuse_clash(alloc, zero, rails, ports_of(head), devices)?;
+    Ok(flat_of(alloc, deck, rails, head, devices)?)
 }
 
 /// The devices of cards.
@@ -196,7 +193,7 @@ fn flat_of_cards<'a>(
     ensures gives { Gives result (judged_by deck.now rails.now (option_copied chosen.entry.head) (devices_in scene.now chosen.entry.cards.now)) }
 {
     let devices = expanded(alloc, scene, chosen.cards)?;
-    judged(alloc, zero, deck, rails, chosen.head, devices)
+    judged(alloc, zero, deck, rails, chosen.head, &devices)
 }
 
 /// The flat deck of what is chosen, or its first refusal.

@@ -1,4 +1,4 @@
-ghost use Rattle.std.specs.Prelude.{◌≡◌, ◌∷◌, [], map, flat_map, option_to_list, Some};
+ghost use Rattle.std.specs.Prelude.{◌≡◌, ◌∷◌, [], length, map, flat_map, option_to_list, Some};
 ghost use Rattle.std.specs.Option.{option_copied};
 ghost use Rattle.gl_text.specs.Cards as cards;
 ghost use Rattle.gl_text.specs.Cards.{spaced};
@@ -7,6 +7,7 @@ ghost use Rattle.gl_text.specs.Flattening as flat;
 ghost use Rattle.gl_text.specs.Flattening.{path_text, around, flat_text};
 ghost use Rattle.gl_card.specs.Lines.{spaced_all};
 ghost use Rattle.gl_flat.specs.Lengths.{after, flat_line};
+ghost use Rattle.gl_flat.specs.LongNames.{IsCountable};
 ghost use Rattle.gl_flat.specs.Numbered.{global_line, model_line, passed_line};
 
 use crate::net::Net;
@@ -50,6 +51,22 @@ fn add_net(total: usize, net: &Net<'_>) -> usize
     ensures total { result ≡ after total (flat.net_name net.now) }
 {
     add(add_path(total, &net.path), net.name.as_bytes())
+}
+
+/// The length of a net's flat name.
+pub fn net_length(net: &Net<'_>) -> usize
+    requires short { IsCountable (flat.net_name net.now) }
+    ensures length { result ≡ length (flat.net_name net.now) }
+{
+    add_net(0, net)
+}
+
+/// The length of a device's flat name.
+pub fn device_length(device: &Reached<'_>) -> usize
+    requires short { IsCountable (flat.device_name device.now) }
+    ensures length { result ≡ length (flat.device_name device.now) }
+{
+    add_own(0, device)
 }
 
 /// Adds the length of a device's flat name.

@@ -1,21 +1,21 @@
-ghost use Rattle.std.specs.Prelude.{◌≡◌, ◌∷◌, [], map, flat_map, option_map};
-ghost use Rattle.gl_text.specs.LogicalLines.{long_flat_name};
+ghost use Rattle.std.specs.Prelude.{◌≡◌, ◌<◌, ◌^◌, map, flat_map, nat_lt, option_map};
+ghost use Rattle.gl_text.specs.LogicalLines.{NAME as MOST_BYTES, long_flat_name};
+ghost use Rattle.gl_text.specs.Cards.{when};
 ghost use Rattle.gl_text.specs.Flattening.{bearers, net};
-ghost use Rattle.gl_flat.specs.LongNames as names;
-ghost use Rattle.gl_flat.specs.LongNames.{AreCountable, IsCountable, long_in};
+ghost use Rattle.gl_flat.specs.LongNames.{AreCountable, long_in};
 
-use crate::Name;
-use crate::named::{Named, NamedNet};
+use crate::length::{device_length, net_length};
+use crate::net::Net;
+use crate::reached::Reached;
 
 /// The most bytes that a flat name may have.
 const NAME: usize = 1024;
 
-/// The length of a flat name that is too long.
-fn long_name(name: &Name) -> Option<u32>
-    requires short { IsCountable name.now }
-    ensures long { option_map long_flat_name result ≡ names.long_name name.now }
+/// A length, if a flat name of it is too long.
+fn too_long(len: usize) -> Option<u32>
+    requires short { len < 2 ^ 32 }
+    ensures long { option_map long_flat_name result ≡ when (nat_lt MOST_BYTES len) (long_flat_name len) }
 {
-    let len = name.as_bytes().len();
     if len > NAME {
         return Some(len as u32);
     }
@@ -23,13 +23,13 @@ fn long_name(name: &Name) -> Option<u32>
 }
 
 /// The length of the first net's flat name that is too long.
-fn long_net(nets: &[NamedNet<'_>]) -> Option<u32>
+fn long_net(nets: &[Net<'_>]) -> Option<u32>
     requires short { AreCountable (map net nets.now) }
     ensures long { option_map long_flat_name result ≡ long_in (map net nets.now) }
 {
     let mut rest = nets;
     while let [net, behind @ ..] = rest {
-        if let Some(len) = long_name(net.text()) {
+        if let Some(len) = too_long(net_length(net)) {
             return Some(len);
         }
         rest = behind;
@@ -38,18 +38,18 @@ fn long_net(nets: &[NamedNet<'_>]) -> Option<u32>
 }
 
 /// The length of the first flat name of a device and its nets that is too long.
-fn long_of(device: &Named<'_>) -> Option<u32>
+fn long_of(device: &Reached<'_>) -> Option<u32>
     requires short { AreCountable (bearers device.now) }
     ensures long { option_map long_flat_name result ≡ long_in (bearers device.now) }
 {
-    match long_name(device.text()) {
+    match too_long(device_length(device)) {
         Some(len) => Some(len),
-        None => long_net(device.nets()),
+        None => long_net(&device.nets),
     }
 }
 
 /// The length of the first flat name that is too long, by device and its own name before those of its nets.
-pub fn first_long(devices: &[Named<'_>]) -> Option<u32>
+pub fn first_long(devices: &[Reached<'_>]) -> Option<u32>
     requires short { AreCountable (flat_map bearers devices.now) }
     ensures long { option_map long_flat_name result ≡ long_in (flat_map bearers devices.now) }
 {

@@ -4,7 +4,7 @@ ghost use Rattle.gl_text.specs.Flattening as flat;
 ghost use Rattle.gl_text.specs.Flattening.{path_text};
 
 use crate::Name;
-use crate::named::{Named, NamedNet};
+use crate::flat_name::FlatName;
 use crate::net::Net;
 use crate::reached::Reached;
 use std::alloc::{AllocError, Global};
@@ -28,7 +28,7 @@ fn put_path(out: &mut Vec<u8>, path: &[&Name]) -> Result<(), AllocError>
     Ok(())
 }
 
-/// A net's flat name.
+/// The text of a net's flat name.
 fn net_text(alloc: Global, net: &Net<'_>) -> Result<Name, AllocError>
     ensures name { IfOk result (λ name. name ≡ flat.net_name net.now) }
 {
@@ -36,6 +36,18 @@ fn net_text(alloc: Global, net: &Net<'_>) -> Result<Name, AllocError>
     put_path(&mut bytes, &net.path)?;
     bytes.extend_from_slice(net.name.as_bytes())?;
     Ok(Name { bytes })
+}
+
+/// A net's flat name.
+pub fn flat_name<'a>(alloc: Global, net: &Net<'a>) -> Result<FlatName<'a>, AllocError>
+    ensures name { IfOk result (λ name. name ≡ flat.net_name net.now) }
+{
+    let own = net.name;
+    if net.path.is_empty() {
+        return Ok(FlatName { own, made: None });
+    }
+    let made = Some(net_text(alloc, net)?);
+    Ok(FlatName { own, made })
 }
 
 /// The first byte of a name; 0 where there is none.
@@ -49,7 +61,7 @@ fn first_byte(name: &[u8]) -> u8
 }
 
 /// A device's flat name.
-fn device_text(alloc: Global, device: &Reached<'_>) -> Result<Name, AllocError>
+pub fn device_text(alloc: Global, device: &Reached<'_>) -> Result<Name, AllocError>
     ensures name { IfOk result (λ name. name ≡ flat.device_name device.now) }
 {
     let name = device.card.name().as_bytes();
@@ -62,50 +74,4 @@ fn device_text(alloc: Global, device: &Reached<'_>) -> Result<Name, AllocError>
     put_path(&mut bytes, &device.path)?;
     bytes.extend_from_slice(name)?;
     Ok(Name { bytes })
-}
-
-/// A net with its flat name.
-pub fn named_net<'a>(alloc: Global, net: Net<'a>) -> Result<NamedNet<'a>, AllocError>
-    ensures net { IfOk result (λ named. named ≡ net.entry) }
-{
-    let text = net_text(alloc, &net)?;
-    Ok(NamedNet { net, text })
-}
-
-/// Nets with their flat names.
-pub fn named_nets<'a>(alloc: Global, nets: Vec<Net<'a>>) -> Result<Vec<NamedNet<'a>>, AllocError>
-    ensures nets { IfOk result (λ named. named.items ≡ nets.entry.items) }
-{
-    let mut named = Vec::with_capacity(alloc, nets.len())?;
-    for net in nets {
-        named.push(named_net(alloc, net)?)?;
-    }
-    Ok(named)
-}
-
-/// A device with its flat name and those of its nets.
-fn named_device<'a>(alloc: Global, device: Reached<'a>) -> Result<Named<'a>, AllocError>
-    ensures device { IfOk result (λ named. named ≡ device.entry) }
-{
-    let text = device_text(alloc, &device)?;
-    Ok(Named {
-        path: device.path,
-        card: device.card,
-        text,
-        nets: named_nets(alloc, device.nets)?,
-    })
-}
-
-/// Devices with their flat names and those of their nets.
-pub fn named_devices<'a>(
-    alloc: Global,
-    devices: Vec<Reached<'a>>,
-) -> Result<Vec<Named<'a>>, AllocError>
-    ensures devices { IfOk result (λ named. named.items ≡ devices.entry.items) }
-{
-    let mut named = Vec::with_capacity(alloc, devices.len())?;
-    for device in devices {
-        named.push(named_device(alloc, device)?)?;
-    }
-    Ok(named)
 }

@@ -3,8 +3,9 @@ ghost use Rattle.gl_text.specs.Flattening.{bearers, device, net, net_name};
 ghost use Rattle.gl_flat.specs.Refusals.{IsRefusal, fault_of};
 ghost use Rattle.gl_flat.specs.SeenNames.{nothing_seen, seen_all};
 
-use crate::named::{Named, NamedNet};
+use crate::naming::{device_text, flat_name};
 use crate::net::Net;
+use crate::reached::Reached;
 use crate::same::same_net;
 use crate::{FlatFault, Name};
 use indexmap::{IndexMap, IndexSet};
@@ -50,11 +51,10 @@ impl<'a> Seen<'a> {
     }
 
     /// Adds a device's name, or refuses one that was seen.
-    fn add_device(&mut self, alloc: Global, name: &Name) -> Result<(), FlatFault>
-        ensures ok { OnOk result (seen_all self.old (device name.now ∷ []) ≡ Ok self.new) }
-        ensures refused { IfErr result (λ fault. IsRefusal (fault_of fault) (seen_all self.old (device name.now ∷ []))) }
+    fn add_device(&mut self, name: Name) -> Result<(), FlatFault>
+        ensures ok { OnOk result (seen_all self.old (device name ∷ []) ≡ Ok self.new) }
+        ensures refused { IfErr result (λ fault. IsRefusal (fault_of fault) (seen_all self.old (device name ∷ []))) }
     {
-        let name = Name::of(alloc, name.as_bytes())?;
         if self.devices.contains(&name) {
             return Err(FlatFault::NameClash { name });
         }
@@ -63,23 +63,26 @@ impl<'a> Seen<'a> {
     }
 
     /// Adds a net, or refuses one whose flat name another net has.
-    pub fn add_net(&mut self, alloc: Global, added: &NamedNet<'a>) -> Result<(), FlatFault>
+    pub fn add_net(&mut self, alloc: Global, added: &Net<'a>) -> Result<(), FlatFault>
         ensures ok { OnOk result (seen_all self.old (net added.now ∷ []) ≡ Ok self.new) }
         ensures refused { IfErr result (λ fault. IsRefusal (fault_of fault) (seen_all self.old (net added.now ∷ []))) }
     {
-        let name = Name::of(alloc, added.text().as_bytes())?;
-        if let Some(known) = self.nets.get(&name) {
-            if same_net(added.net(), known) {
+        let name = flat_name(alloc, added)?;
+        if let Some(known) = self.nets.get(name.as_name()) {
+            if same_net(added, known) {
                 return Ok(());
             }
-            return Err(FlatFault::NameClash { name });
+            return Err(FlatFault::NameClash {
+                name: name.into_name(alloc)?,
+            });
         }
-        self.nets.insert(name, copy_of(alloc, added.net())?)?;
+        self.nets
+            .insert(name.into_name(alloc)?, copy_of(alloc, added)?)?;
         Ok(())
     }
 
     /// Adds nets, or refuses the first whose flat name another net has.
-    pub fn add_nets(&mut self, alloc: Global, nets: &[NamedNet<'a>]) -> Result<(), FlatFault>
+    pub fn add_nets(&mut self, alloc: Global, nets: &[Net<'a>]) -> Result<(), FlatFault>
         ensures ok { OnOk result (seen_all self.old (map net nets.now) ≡ Ok self.new) }
         ensures refused { IfErr result (λ fault. IsRefusal (fault_of fault) (seen_all self.old (map net nets.now))) }
     {
@@ -90,16 +93,16 @@ impl<'a> Seen<'a> {
     }
 
     /// Adds a device's name and its nets, or refuses the first that clashes.
-    fn add_bearers(&mut self, alloc: Global, added: &Named<'a>) -> Result<(), FlatFault>
+    fn add_bearers(&mut self, alloc: Global, added: &Reached<'a>) -> Result<(), FlatFault>
         ensures ok { OnOk result (seen_all self.old (bearers added.now) ≡ Ok self.new) }
         ensures refused { IfErr result (λ fault. IsRefusal (fault_of fault) (seen_all self.old (bearers added.now))) }
     {
-        self.add_device(alloc, added.text())?;
-        self.add_nets(alloc, added.nets())
+        self.add_device(device_text(alloc, added)?)?;
+        self.add_nets(alloc, &added.nets)
     }
 
     /// Adds the names of devices and their nets, or refuses the first that clashes.
-    pub fn add_all(&mut self, alloc: Global, devices: &[Named<'a>]) -> Result<(), FlatFault>
+    pub fn add_all(&mut self, alloc: Global, devices: &[Reached<'a>]) -> Result<(), FlatFault>
         ensures ok { OnOk result (seen_all self.old (flat_map bearers devices.now) ≡ Ok self.new) }
         ensures refused { IfErr result (λ fault. IsRefusal (fault_of fault) (seen_all self.old (flat_map bearers devices.now))) }
     {
