@@ -1,5 +1,5 @@
 #!/usr/bin/env bash
-# Proves and builds the program, lists the instances of LIBRARY's cell in DECK, and shows the report.
+# Proves and builds the program, lists the instances of LIBRARY's cells in DECK, and shows the report.
 # Usage: scripts/lift.sh DECK LIBRARY
 set -eu
 [ $# = 2 ] || { echo "usage: scripts/lift.sh DECK LIBRARY" >&2; exit 1; }
