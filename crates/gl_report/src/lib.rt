@@ -18,3 +18,6 @@ pub use laws::rounds_are_reportable;
 pub use names::Names;
 pub use report::print;
 pub use unmarked::left;
+
+#[cfg(test)]
+mod tests;

@@ -6,6 +6,7 @@ mod flat;
 mod flat_refusal;
 mod inputs;
 mod job;
+mod laws;
 mod library_refusal;
 mod lift;
 mod making;
@@ -20,6 +21,7 @@ mod writing;
 pub use ending::Ending;
 pub use flat_refusal::FlatRefusal;
 pub use job::run;
+pub use laws::{flattening_refusals, library_refusals, reading_refusals, said_lines};
 pub use library_refusal::LibraryRefusal;
 pub use read_refusal::Refusal;
 

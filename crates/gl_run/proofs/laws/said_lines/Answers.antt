@@ -1,0 +1,8 @@
+-- The numbers are printed.
+use Rattle.std.proofs.Common.{refl}
+use Rattle.std.specs.Fmt.{digits}
+use Rattle.gl_run.proofs.laws.said_lines.Goals as goal
+
+pub returns : goal.returns
+unfolding digits
+returns c = record { done = refl; words = refl; deck = refl; flat = refl; library = refl; long_deck = refl; long_library = refl; read = refl; write = refl; write_out = refl; memory = refl }
