@@ -1,20 +1,20 @@
 -- Names that are seen clash exactly where an earlier device or other net has the name.
-use Rattle.std.proofs.Common.{◌≡◌, ℕ, List, [], ◌∷◌, ◌++◌, Bool, true, false, cond, not, Option, Some, None, Result, Ok, Err, refl, sym, ap, ◌∙◌, subst, map, append-nil, append_assoc}
-use Rattle.std.specs.Prelude.{◌||◌, ◌&&◌}
+use Rattle.std.proofs.Common.{◌≡◌, ℕ, List, [], ◌∷◌, ◌++◌, Bool, true, false, cond, not, Option, Some, None, Result, Ok, Err, refl, sym, ap, ◌∙◌, map}
+use Rattle.std.specs.Prelude.{◌||◌, ◌&&◌, codes}
 use Rattle.std.specs.List.{list_any}
 use Rattle.std.specs.Map.{lookup}
 use Rattle.std.specs.Cmp.Lexicographic.{nat_list_eq_equiv}
 use Rattle.std.proofs.lemmas.List.Folds.{list_any-append}
-use Rattle.std.proofs.lemmas.List.{map-append}
 use Rattle.indexmap.specs.IndexMap.{insert_entry}
 use Rattle.indexmap.specs.IndexSet.{insert_key}
 use Rattle.gl_text.specs.LogicalLines.{Fault, name_clash, same_text}
 use Rattle.gl_text.specs.Cards.{first_some, when}
-use Rattle.gl_text.specs.Decks.{◌>>=◌, is_in}
+use Rattle.gl_text.specs.Decks.{◌>>=◌, is_in, once}
 use Rattle.gl_text.specs.Flattening.{Net, Bearer, device, net, net_name, top_net, bearer_name, same_path, clash, first_clash}
 use Rattle.gl_deck.proofs.CallLaws.{exact}
+use Rattle.gl_flat.proofs.SoundLaws.{tops_once}
 use Rattle.gl_flat.specs.Refusals.{IsFound, IsRefusal}
-use Rattle.gl_flat.specs.SeenNames.{Seen, nothing_seen, same_net, with_net, seen_with, seen_all}
+use Rattle.gl_flat.specs.SeenNames.{Seen, nothing_seen, same_net, is_below, takes_top_name, with_net, seen_with, seen_all}
 
 -- ---- truth values
 
@@ -22,13 +22,20 @@ no_more : (a : Bool) → (a || (false || false)) ≡ a
 no_more true = refl
 no_more false = refl
 
-once_more : (a : Bool) → a ≡ (a || (a || false))
-once_more true = refl
-once_more false = refl
+turned : (a b : Bool) → (a || b) ≡ (b || (a || false))
+turned true true = refl
+turned true false = refl
+turned false true = refl
+turned false false = refl
 
-just : (a : Bool) → a ≡ (false || (a || false))
-just true = refl
-just false = refl
+again : (a b : Bool) → (a || b) ≡ ((a || b) || (a || false))
+again true b = refl
+again false true = refl
+again false false = refl
+
+and_true : (a : Bool) → (a && true) ≡ a
+and_true true = refl
+and_true false = refl
 
 -- ---- the same net
 
@@ -51,7 +58,7 @@ nets_exact m n e =
 
 -- ---- tables
 
-none_here : (n : List ℕ) (e : List ℕ × Net) (es : List (List ℕ × Net)) (b : Bool) → cond b (Some e.1) (lookup (same_text n) es) ≡ None → (b ≡ false) × (lookup (same_text n) es ≡ None)
+pub none_here : (n : List ℕ) (e : List ℕ × Net) (es : List (List ℕ × Net)) (b : Bool) → cond b (Some e.1) (lookup (same_text n) es) ≡ None → (b ≡ false) × (lookup (same_text n) es ≡ None)
 none_here n e es true h = absurd cc
 none_here n e es false h = (refl, h)
 
@@ -62,7 +69,7 @@ swapped q n k v w o true true e f g =
     let h : true ≡ false = sym (nat_list_eq_equiv.refl k) ∙ ap (λ x. same_text x k) (sym (exact q k e)) ∙ ap (λ x. same_text x k) (exact q n f) ∙ g in
     absurd cc
 
-inserted_by : (n k : List ℕ) (v w : Net) (es : List (List ℕ × Net)) (b : Bool) → b ≡ false → cond b ((k, v) ∷ es) ((k, w) ∷ insert_entry same_text es n v) ≡ (k, w) ∷ insert_entry same_text es n v
+pub inserted_by : (n k : List ℕ) (v w : Net) (es : List (List ℕ × Net)) (b : Bool) → b ≡ false → cond b ((k, v) ∷ es) ((k, w) ∷ insert_entry same_text es n v) ≡ (k, w) ∷ insert_entry same_text es n v
 inserted_by n k v w es true e = absurd cc
 inserted_by n k v w es false e = refl
 
@@ -83,38 +90,49 @@ differs m (Some k) = not (same_net m k)
 
 record Knows (s : Seen) (before : List Bearer) : Type 0 where
   pub devices : (n : List ℕ) → is_in n s.devices ≡ list_any (clash (device n)) before
-  pub nets : (m : Net) → differs m (lookup (same_text (net_name m)) s.nets) ≡ list_any (clash (net m)) before
+  pub nets : (m : Net) → (differs m (lookup (same_text (net_name m)) s.nets) || takes_top_name s m) ≡ list_any (clash (net m)) before
+  pub own : (m : Net) → lookup (same_text (net_name m)) s.nets ≡ Some m → takes_top_name s m ≡ false
 
 apart : (x b : Bearer) (before : List Bearer) → clash x b ≡ false → list_any (clash x) before ≡ list_any (clash x) (before ++ b ∷ [])
 apart x b before e = sym (list_any-append (clash x) before (b ∷ []) ∙ ap (λ c. list_any (clash x) before || (c || false)) e ∙ no_more (list_any (clash x) before))
 
 new_by : (s : Seen) (before : List Bearer) (m k : Net) (b : Bool) → Knows s before → lookup (same_text (net_name m)) s.nets ≡ None → same_text (net_name k) (net_name m) ≡ b
-    → differs k (cond b (Some m) (lookup (same_text (net_name k)) s.nets)) ≡ (list_any (clash (net k)) before || ((b && not (same_net k m)) || false))
+    → (differs k (cond b (Some m) (lookup (same_text (net_name k)) s.nets)) || takes_top_name s k) ≡ (list_any (clash (net k)) before || ((b && not (same_net k m)) || false))
 new_by s before m k true h none e =
     let there : differs k (lookup (same_text (net_name k)) s.nets) ≡ false = ap (λ n. differs k (lookup (same_text n) s.nets)) (exact (net_name k) (net_name m) e) ∙ ap (differs k) none in
-    just (not (same_net k m)) ∙ ap (λ c. c || (not (same_net k m) || false)) (sym there ∙ h.nets k)
+    turned (not (same_net k m)) (takes_top_name s k) ∙ ap (λ c. c || (not (same_net k m) || false)) (sym (ap (λ d. d || takes_top_name s k) there) ∙ h.nets k)
 new_by s before m k false h none e = h.nets k ∙ sym (no_more (list_any (clash (net k)) before))
 
-knows_new : (s : Seen) (before : List Bearer) (m : Net) → Knows s before → lookup (same_text (net_name m)) s.nets ≡ None → Knows (record s { nets = insert_entry same_text s.nets (net_name m) m }) (before ++ net m ∷ [])
-knows_new s before m h none = record {
+some_same : (m k : Net) → Some m ≡ Some k → m ≡ k
+some_same m k e = cc
+
+own_by : (s : Seen) (before : List Bearer) (m k : Net) (b : Bool) → Knows s before → takes_top_name s m ≡ false → cond b (Some m) (lookup (same_text (net_name k)) s.nets) ≡ Some k → takes_top_name s k ≡ false
+own_by s before m k true h t e = ap (takes_top_name s) (sym (some_same m k e)) ∙ t
+own_by s before m k false h t e = h.own k e
+
+knows_new : (s : Seen) (before : List Bearer) (m : Net) → Knows s before → lookup (same_text (net_name m)) s.nets ≡ None → takes_top_name s m ≡ false → Knows (record s { nets = insert_entry same_text s.nets (net_name m) m }) (before ++ net m ∷ [])
+knows_new s before m h none t = record {
   devices = λ n. h.devices n ∙ apart (device n) (net m) before refl;
-  nets = λ k. ap (differs k) (found_more s.nets (net_name m) (net_name k) m none) ∙ new_by s before m k (same_text (net_name k) (net_name m)) h none refl ∙ sym (list_any-append (clash (net k)) before (net m ∷ []));
+  nets = λ k. ap (λ o. differs k o || takes_top_name s k) (found_more s.nets (net_name m) (net_name k) m none) ∙ new_by s before m k (same_text (net_name k) (net_name m)) h none refl ∙ sym (list_any-append (clash (net k)) before (net m ∷ []));
+  own = λ k e. own_by s before m k (same_text (net_name k) (net_name m)) h t (sym (found_more s.nets (net_name m) (net_name k) m none) ∙ e);
 }
 
 same_by : (s : Seen) (before : List Bearer) (m k : Net) (b : Bool) → Knows s before → lookup (same_text (net_name m)) s.nets ≡ Some m → same_text (net_name k) (net_name m) ≡ b
-    → differs k (lookup (same_text (net_name k)) s.nets) ≡ (list_any (clash (net k)) before || ((b && not (same_net k m)) || false))
+    → (differs k (lookup (same_text (net_name k)) s.nets) || takes_top_name s k) ≡ (list_any (clash (net k)) before || ((b && not (same_net k m)) || false))
 same_by s before m k true h there e =
-    let known : differs k (lookup (same_text (net_name k)) s.nets) ≡ not (same_net k m) = ap (λ n. differs k (lookup (same_text n) s.nets)) (exact (net_name k) (net_name m) e) ∙ ap (differs k) there in
-    known ∙ once_more (not (same_net k m)) ∙ ap (λ c. c || (not (same_net k m) || false)) (sym known ∙ h.nets k)
+    let found = lookup (same_text (net_name k)) s.nets in
+    let known : differs k found ≡ not (same_net k m) = ap (λ n. differs k (lookup (same_text n) s.nets)) (exact (net_name k) (net_name m) e) ∙ ap (differs k) there in
+    again (differs k found) (takes_top_name s k) ∙ ap (λ c. c || (differs k found || false)) (h.nets k) ∙ ap (λ d. list_any (clash (net k)) before || (d || false)) known
 same_by s before m k false h there e = h.nets k ∙ sym (no_more (list_any (clash (net k)) before))
 
 knows_same : (s : Seen) (before : List Bearer) (m : Net) → Knows s before → lookup (same_text (net_name m)) s.nets ≡ Some m → Knows s (before ++ net m ∷ [])
 knows_same s before m h there = record {
   devices = λ n. h.devices n ∙ apart (device n) (net m) before refl;
   nets = λ k. same_by s before m k (same_text (net_name k) (net_name m)) h there refl ∙ sym (list_any-append (clash (net k)) before (net m ∷ []));
+  own = h.own;
 }
 
-key_by : (n : List ℕ) (ks : List (List ℕ)) (b : Bool) → b ≡ false → cond b ks (ks ++ n ∷ []) ≡ ks ++ n ∷ []
+pub key_by : (n : List ℕ) (ks : List (List ℕ)) (b : Bool) → b ≡ false → cond b ks (ks ++ n ∷ []) ≡ ks ++ n ∷ []
 key_by n ks true e = absurd cc
 key_by n ks false e = refl
 
@@ -122,6 +140,7 @@ knows_device : (s : Seen) (before : List Bearer) (n : List ℕ) → Knows s befo
 knows_device s before n h none = record {
   devices = λ k. ap (is_in k) (key_by n s.devices (is_in n s.devices) none) ∙ list_any-append (same_text k) s.devices (n ∷ []) ∙ ap (λ c. c || (same_text k n || false)) (h.devices k) ∙ sym (list_any-append (clash (device k)) before (device n ∷ []));
   nets = λ m. h.nets m ∙ apart (net m) (device n) before refl;
+  own = h.own;
 }
 
 -- ---- one name more
@@ -136,12 +155,26 @@ device_by s before n false h e = fitting (record s { devices = insert_key same_t
 
 known_by : (s : Seen) (before : List Bearer) (m k : Net) (b : Bool) → Knows s before → lookup (same_text (net_name m)) s.nets ≡ Some k → same_net m k ≡ b → Judged s before (net m)
 known_by s before m k true h e f =
-    fitting s (ap (with_net s m) e ∙ ap (λ c. cond c (Ok s) (Err (name_clash (net_name m)))) f) (sym (h.nets m) ∙ ap (differs m) e ∙ ap not f)
-    (knows_same s before m h (e ∙ ap (λ j. Some j) (sym (nets_exact m k f))))
-known_by s before m k false h e f = clashing (ap (with_net s m) e ∙ ap (λ c. cond c (Ok s) (Err (name_clash (net_name m)))) f) (sym (h.nets m) ∙ ap (differs m) e ∙ ap not f)
+    let there : lookup (same_text (net_name m)) s.nets ≡ Some m = e ∙ ap (λ j. Some j) (sym (nets_exact m k f)) in
+    fitting s (ap (with_net s m) e ∙ ap (λ c. cond c (Ok s) (Err (name_clash (net_name m)))) f)
+    (sym (h.nets m) ∙ ap (λ o. differs m o || takes_top_name s m) e ∙ ap (λ c. not c || takes_top_name s m) f ∙ h.own m there)
+    (knows_same s before m h there)
+known_by s before m k false h e f =
+    clashing (ap (with_net s m) e ∙ ap (λ c. cond c (Ok s) (Err (name_clash (net_name m)))) f)
+    (sym (h.nets m) ∙ ap (λ o. differs m o || takes_top_name s m) e ∙ ap (λ c. not c || takes_top_name s m) f)
+
+none_by : (s : Seen) (before : List Bearer) (m : Net) (b : Bool) → Knows s before → lookup (same_text (net_name m)) s.nets ≡ None → takes_top_name s m ≡ b → Judged s before (net m)
+none_by s before m true h e f =
+    clashing (ap (with_net s m) e ∙ ap (λ c. cond c (Err (name_clash (net_name m))) (Ok (record s { nets = insert_entry same_text s.nets (net_name m) m }))) f)
+    (sym (h.nets m) ∙ ap (λ o. differs m o || takes_top_name s m) e ∙ f)
+none_by s before m false h e f =
+    fitting (record s { nets = insert_entry same_text s.nets (net_name m) m })
+    (ap (with_net s m) e ∙ ap (λ c. cond c (Err (name_clash (net_name m))) (Ok (record s { nets = insert_entry same_text s.nets (net_name m) m }))) f)
+    (sym (h.nets m) ∙ ap (λ o. differs m o || takes_top_name s m) e ∙ f)
+    (knows_new s before m h e f)
 
 net_by : (s : Seen) (before : List Bearer) (m : Net) (o : Option Net) → Knows s before → lookup (same_text (net_name m)) s.nets ≡ o → Judged s before (net m)
-net_by s before m None h e = fitting (record s { nets = insert_entry same_text s.nets (net_name m) m }) (ap (with_net s m) e) (sym (h.nets m) ∙ ap (differs m) e) (knows_new s before m h e)
+net_by s before m None h e = none_by s before m (takes_top_name s m) h e refl
 net_by s before m (Some k) h e = known_by s before m k (same_net m k) h e refl
 
 judged : (s : Seen) (before : List Bearer) (b : Bearer) → Knows s before → Judged s before b
@@ -168,26 +201,6 @@ clash_is : (bs : List Bearer) (s : Seen) (before : List Bearer) → Knows s befo
 clash_is [] s before h = refl
 clash_is (b ∷ bs) s before h = clash_by s before b bs (judged s before b h) (λ t k. clash_is bs t (before ++ b ∷ []) k)
 
-abbrev fits : Seen → Result Seen Fault
-fits s = Ok s
-
-abbrev fails : Fault → Result Seen Fault
-fails f = Err f
-
-fits_same : (s u : Seen) → fits s ≡ fits u → s ≡ u
-fits_same s u e = cc
-
-knows_by : (s u : Seen) (before : List Bearer) (b : Bearer) (bs : List Bearer) → Judged s before b → ((t : Seen) → Knows t (before ++ b ∷ []) → seen_all t bs ≡ Ok u → Knows u ((before ++ b ∷ []) ++ bs)) → seen_all s (b ∷ bs) ≡ Ok u → Knows u (before ++ b ∷ bs)
-knows_by s u before b bs (clashing e f) r g = let h : fails (name_clash (bearer_name b)) ≡ fits u = sym (ap (λ x. x >>= λ t. seen_all t bs) e) ∙ g in absurd cc
-knows_by s u before b bs (fitting t e f h) r g = subst (Knows u) (append_assoc before (b ∷ []) bs) (r t h (sym (ap (λ x. x >>= λ v. seen_all v bs) e) ∙ g))
-
-knows_all : (bs : List Bearer) (s u : Seen) (before : List Bearer) → Knows s before → seen_all s bs ≡ Ok u → Knows u (before ++ bs)
-knows_all [] s u before h e = subst (λ v. Knows v (before ++ [])) (fits_same s u e) (subst (λ bs. Knows s bs) (sym (append-nil before)) h)
-knows_all (b ∷ bs) s u before h e = knows_by s u before b bs (judged s before b h) (λ t k g. knows_all bs t u (before ++ b ∷ []) k g) e
-
-knows_nothing : Knows nothing_seen []
-knows_nothing = record { devices = λ n. refl; nets = λ m. refl }
-
 -- ---- nets of the top
 
 abbrev top : List ℕ → Bearer
@@ -197,33 +210,45 @@ never : (b : Bool) → (b && not b) ≡ false
 never true = refl
 never false = refl
 
-tops_apart : (n : List ℕ) (ns : List (List ℕ)) → list_any (clash (top n)) (map top ns) ≡ false
-tops_apart n [] = refl
-tops_apart n (m ∷ ms) = ap (λ c. c || list_any (clash (top n)) (map top ms)) (never (same_text n m)) ∙ tops_apart n ms
+no_device : (n : List ℕ) (ns : List (List ℕ)) → list_any (clash (device n)) (map top ns) ≡ false
+no_device n [] = refl
+no_device n (m ∷ ms) = no_device n ms
 
-tops_fit : (ns before : List (List ℕ)) → first_clash (map top before) (map top ns) ≡ None
-tops_fit [] before = refl
-tops_fit (n ∷ ns) before =
-    ap (λ c. first_some (when c (name_clash n) ∷ first_clash (map top before ++ top n ∷ []) (map top ns) ∷ [])) (tops_apart n before)
-    ∙ sym (alone (first_clash (map top before ++ top n ∷ []) (map top ns)))
-    ∙ ap (λ bs. first_clash bs (map top ns)) (sym (map-append top before (n ∷ []))) ∙ tops_fit ns (before ++ n ∷ [])
+top_clashes : (path : List (List ℕ)) (name : List ℕ) (ns : List (List ℕ))
+    → list_any (clash (net (record { path = path; name = name }))) (map top ns) ≡ (is_below path && is_in (net_name (record { path = path; name = name })) ns)
+top_clashes [] name [] = refl
+top_clashes [] name (n ∷ ns) = ap (λ c. c || list_any (clash (net (record { path = []; name = name }))) (map top ns)) (never (same_text name n)) ∙ top_clashes [] name ns
+top_clashes (x ∷ xs) name [] = refl
+top_clashes (x ∷ xs) name (n ∷ ns) =
+    ap (λ c. c || list_any (clash (net (record { path = x ∷ xs; name = name }))) (map top ns)) (and_true (same_text (net_name (record { path = x ∷ xs; name = name })) n))
+    ∙ ap (λ c. same_text (net_name (record { path = x ∷ xs; name = name })) n || c) (top_clashes (x ∷ xs) name ns)
+
+-- nothing but names of the top, in any list that has the same names
+knows_tops : (tops names : List (List ℕ)) → ((n : List ℕ) → is_in n tops ≡ is_in n names) → Knows (nothing_seen tops) (map top names)
+knows_tops tops names h = record {
+  devices = λ n. sym (no_device n names);
+  nets = λ m. ap (λ c. is_below m.path && c) (h (net_name m)) ∙ sym (top_clashes m.path m.name names);
+  own = λ m e. absurd cc;
+}
+
+-- names of the top count, and not their order
+pub same_tops : (tops names : List (List ℕ)) (bs : List Bearer) → ((n : List ℕ) → is_in n tops ≡ is_in n names) → first_clash (map top tops) bs ≡ first_clash (map top names) bs
+same_tops tops names bs h = sym (clash_is bs (nothing_seen tops) (map top tops) (knows_tops tops tops (λ n. refl))) ∙ clash_is bs (nothing_seen tops) (map top names) (knows_tops tops names h)
+
+-- the nets of the top by the tables of a scene
+pub clash_same : (keys own rails ports : List (List ℕ)) (bs : List Bearer) → keys ≡ once rails → own ≡ once ports → first_clash (map top (codes "0" ∷ keys ++ own)) bs ≡ first_clash (map top (codes "0" ∷ rails ++ ports)) bs
+clash_same keys own rails ports bs e f =
+    ap (λ ks. first_clash (map top (codes "0" ∷ ks ++ own)) bs) e ∙ ap (λ ks. first_clash (map top (codes "0" ∷ once rails ++ ks)) bs) f
+    ∙ same_tops (codes "0" ∷ once rails ++ once ports) (codes "0" ∷ rails ++ ports) bs (λ n. tops_once n rails ports)
 
 some_found : (o : Option Fault) (r : Result Seen Fault) (w : Option Fault) → error_of r ≡ w → IsRefusal o r → IsFound o w
 some_found None r w e h = tt
 some_found (Some f) r w e h = sym e ∙ ap error_of h
 
-not_found : (o : Option Fault) (w : Option Fault) → IsFound o None → IsFound o w
-not_found None w h = tt
-not_found (Some f) w h = absurd cc
-
--- nets of the top do not clash
-pub no_top_clash : (o : Option Fault) (ns : List (List ℕ)) (w : Option Fault) → IsRefusal o (seen_all nothing_seen (map top ns)) → IsFound o w
-no_top_clash o ns w h = not_found o w (some_found o (seen_all nothing_seen (map top ns)) None (clash_is (map top ns) nothing_seen [] knows_nothing ∙ tops_fit ns []) h)
-
--- behind them there is no clash
-pub none_clash : (ns : List (List ℕ)) (bs : List Bearer) (s t : Seen) → seen_all nothing_seen (map top ns) ≡ Ok s → seen_all s bs ≡ Ok t → first_clash (map top ns) bs ≡ None
-none_clash ns bs s t e f = sym (clash_is bs s (map top ns) (knows_all (map top ns) nothing_seen s [] knows_nothing e)) ∙ ap error_of f
+-- behind names of the top there is no clash
+pub none_clash : (tops : List (List ℕ)) (bs : List Bearer) (t : Seen) → seen_all (nothing_seen tops) bs ≡ Ok t → first_clash (map top tops) bs ≡ None
+none_clash tops bs t e = sym (clash_is bs (nothing_seen tops) (map top tops) (knows_tops tops tops (λ n. refl))) ∙ ap error_of e
 
 -- or this one is the first
-pub found_clash : (o : Option Fault) (ns : List (List ℕ)) (bs : List Bearer) (s : Seen) → seen_all nothing_seen (map top ns) ≡ Ok s → IsRefusal o (seen_all s bs) → IsFound o (first_clash (map top ns) bs)
-found_clash o ns bs s e h = some_found o (seen_all s bs) (first_clash (map top ns) bs) (clash_is bs s (map top ns) (knows_all (map top ns) nothing_seen s [] knows_nothing e)) h
+pub found_clash : (o : Option Fault) (tops : List (List ℕ)) (bs : List Bearer) → IsRefusal o (seen_all (nothing_seen tops) bs) → IsFound o (first_clash (map top tops) bs)
+found_clash o tops bs h = some_found o (seen_all (nothing_seen tops) bs) (first_clash (map top tops) bs) (clash_is bs (nothing_seen tops) (map top tops) (knows_tops tops tops (λ n. refl))) h

@@ -12,6 +12,7 @@ pub mod OneNet
 pub mod PrintingLaws
 pub mod SceneLaws
 pub mod SeenLaws
+pub mod SeenNumbers
 pub mod SoundLaws
 pub mod StepLaws
 pub mod WayLaws

@@ -1,5 +1,6 @@
 -- Flattening, put together from its steps.
 use Rattle.std.proofs.Common.{◌≡◌, ◌≤◌, ◌<◌, ◌+◌, ℕ, List, length, Bool, true, false, ltb, Option, Some, None, Result, Ok, Err, refl, sym, ap, ◌∙◌, subst, arith}
+use Rattle.std.specs.Prelude.{OnOk, IfOk, IfErr}
 use Rattle.std.specs.Result.{IsErrAnd}
 use Rattle.std.proofs.lemmas.Bool.{ltb-true, ltb-false, lt-ltb}
 use Rattle.gl_text.specs.LogicalLines.{Fault, long_text}
@@ -9,7 +10,7 @@ use Rattle.gl_text.specs.Flattening.{DEPTH, TEXT, FlatDevice, Flat, flat_devices
 use Rattle.gl_flat.specs.declared.fault.FlatFault.{FlatFault}
 use Rattle.gl_flat.specs.declared.fault.FlatFault.TheVariants as faults
 use Rattle.gl_flat.specs.Lengths.{after}
-use Rattle.gl_flat.specs.Numbered.{Numbered}
+use Rattle.gl_flat.specs.Numbered.{Numbered, numbered}
 use Rattle.gl_flat.specs.Refusals.{Gives, IsFound, IsRefusal, fault_of}
 use Rattle.gl_flat.specs.Steps.{excess_in, text_fault, checked, judged, stepwise}
 
@@ -58,6 +59,11 @@ none_refuses f a b c e g h = ap (λ v. checked f v b c) e ∙ ap (λ v. checked 
 pub gives_refusal : (r : Result Numbered FlatFault) (f : FlatFault) (w : Result Flat Fault) → IsErrAnd r (λ e. e ≡ f) → IsRefusal (fault_of f) w → Gives r w
 gives_refusal (Ok v) f w e h = absurd e
 gives_refusal (Err g) f w e h = subst (λ x. IsRefusal (fault_of x) w) (sym e) h
+
+-- a flat deck that only a clash can refuse
+pub clash_decides : (r : Result Numbered FlatFault) (f : Flat) (a b c : Option Fault) → a ≡ None → b ≡ None → OnOk r (c ≡ None) → IfOk r (λ v. v ≡ numbered f) → IfErr r (λ e. IsFound (fault_of e) c) → Gives r (checked f a b c)
+clash_decides (Ok v) f a b c e g h w k = (f, none_refuses f a b c e g h, w)
+clash_decides (Err x) f a b c e g h w k = third_refuses (fault_of x) f a b c e g k
 
 -- the same answer is given for an equal wish
 pub gives_same : (r : Result Numbered FlatFault) (v w : Result Flat Fault) → v ≡ w → Gives r v → Gives r w

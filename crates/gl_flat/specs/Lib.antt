@@ -4,5 +4,6 @@ pub mod LongNames
 pub mod Numbered
 pub mod Refusals
 pub mod SeenNames
+pub mod TopNames
 pub mod Steps
 pub mod Ways

@@ -1,5 +1,5 @@
--- Flat names that were seen: each name of a device, and each flat name of a net with the net that has it.
-use Rattle.std.specs.Prelude.{ℕ, ◌&&◌, Bool, List, [], ◌∷◌, Option, Some, None, Result, Ok, Err, if◌then◌else◌}
+-- Flat names that were seen behind the nets of the top: each name of a device, and each flat name of a net with the net that has it.
+use Rattle.std.specs.Prelude.{ℕ, ◌&&◌, Bool, true, false, List, [], ◌∷◌, map, Option, Some, None, Result, Ok, Err, if◌then◌else◌}
 use Rattle.std.specs.Map.{lookup}
 use Rattle.indexmap.specs.IndexMap.{insert_entry}
 use Rattle.indexmap.specs.IndexSet.{insert_key}
@@ -7,19 +7,36 @@ use Rattle.gl_text.specs.LogicalLines.{Fault, name_clash, same_text}
 use Rattle.gl_text.specs.Decks.{◌>>=◌, is_in}
 use Rattle.gl_text.specs.Flattening.{Net, Bearer, device, net, net_name, same_path}
 
+-- what was seen: the names of the nets of the top, those of devices, and the flat names of the devices' nets, each with the first net that has it
 pub record Seen : Type 0 where
+  pub tops : List (List ℕ)
   pub devices : List (List ℕ)
   pub nets : List (List ℕ × Net)
 
-abbrev pub nothing_seen : Seen
-nothing_seen = record { devices = []; nets = [] }
+-- nets of the top alone were seen
+abbrev pub nothing_seen : List (List ℕ) → Seen
+nothing_seen tops = record { tops = tops; devices = []; nets = [] }
 
+-- the flat names of the devices' nets, in order of first appearance
+abbrev pub net_names : Seen → List (List ℕ)
+net_names s = map (λ (e : List ℕ × Net). e.0) s.nets
+
+-- two nets are the same
 abbrev pub same_net : Net → Net → Bool
 same_net m n = same_path m.path n.path && same_text m.name n.name
 
--- a net more, where this one has its flat name
+-- a path leads behind X cards
+abbrev pub is_below : List (List ℕ) → Bool
+is_below [] = false
+is_below (name ∷ names) = true
+
+-- the net is none of the top, and has the name of one
+abbrev pub takes_top_name : Seen → Net → Bool
+takes_top_name s m = is_below m.path && is_in (net_name m) s.tops
+
+-- a net more, where this one of a device has its flat name
 abbrev pub with_net : Seen → Net → Option Net → Result Seen Fault
-with_net s m None = Ok (record s { nets = insert_entry same_text s.nets (net_name m) m })
+with_net s m None = if takes_top_name s m then Err (name_clash (net_name m)) else Ok (record s { nets = insert_entry same_text s.nets (net_name m) m })
 with_net s m (Some known) = if same_net m known then Ok s else Err (name_clash (net_name m))
 
 -- a device's or a net's name more, or the clash with one that was seen

@@ -1,10 +1,11 @@
-ghost use Rattle.std.specs.Prelude.{◌≡◌, None, option_map, codes, IfOk};
+ghost use Rattle.std.specs.Prelude.{◌≡◌, None, map, flat_map, option_map, IfOk};
 ghost use Rattle.indexmap.specs.IndexMap.{keys, values};
 ghost use Rattle.gl_text.specs.LogicalLines.{name_clash};
-ghost use Rattle.gl_text.specs.Flattening.{DEPTH as MOST_CALLS, flat_devices, top_place};
+ghost use Rattle.gl_text.specs.Flattening.{DEPTH as MOST_CALLS, bearers, first_clash as first_clash_of, flat_devices, net, top_net, top_place};
 ghost use Rattle.gl_printed.specs.ReadDecks.{AllDiffer};
 ghost use Rattle.gl_deck.specs.Bodies.{names_of};
 ghost use Rattle.gl_flat.specs.Steps.{clash_in};
+ghost use Rattle.gl_flat.specs.TopNames.{top_names};
 ghost use Rattle.gl_flat.specs.Ways.{IsScene, PortsDiffer};
 
 use crate::clash::refuse_clash;
@@ -18,15 +19,12 @@ use std::alloc::{AllocError, Global};
 /// The first name that clashes among devices; every other refusal there is want of memory.
 fn clash_among<'a>(
     alloc: Global,
-    zero: &'a Name,
-    rails: &'a [Name],
-    ports: &'a [Name],
+    scene: &Scene<'a>,
     devices: &[Reached<'a>],
 ) -> Result<Option<Name>, AllocError>
-    requires zero { zero.now ≡ codes "0" }
-    ensures clash { IfOk result (λ name. option_map name_clash name ≡ clash_in rails.now ports.now devices.now) }
+    ensures clash { IfOk result (λ name. option_map name_clash name ≡ first_clash_of (map (λ n. net (top_net n)) (top_names scene.now)) (flat_map bearers devices.now)) }
 {
-    match refuse_clash(alloc, zero, rails, ports, devices) {
+    match refuse_clash(alloc, scene, devices) {
         Ok(()) => Ok(None),
         Err(FlatFault::NameClash { name }) => Ok(Some(name)),
         Err(_) => Err(AllocError),
@@ -37,21 +35,19 @@ fn clash_among<'a>(
 fn clash_of_cell<'a>(
     alloc: Global,
     scene: &Scene<'a>,
-    zero: &'a Name,
-    rails: &'a [Name],
     cell: &'a Sub,
 ) -> Result<Option<Name>, AllocError>
-    requires zero { zero.now ≡ codes "0" }
     requires scene { IsScene scene.now }
-    ensures clash { IfOk result (λ name. option_map name_clash name ≡ clash_in rails.now cell.now.head.ports (flat_devices scene.now.rails.now.keys (values scene.now.subs.now) MOST_CALLS top_place cell.now.cards)) }
+    ensures clash { IfOk result (λ name. option_map name_clash name ≡ first_clash_of (map (λ n. net (top_net n)) (top_names scene.now)) (flat_map bearers (flat_devices scene.now.rails.now.keys (values scene.now.subs.now) MOST_CALLS top_place cell.now.cards))) }
 {
     let devices = expanded(alloc, scene, cell.cards())?;
-    clash_among(alloc, zero, rails, cell.head().ports(), &devices)
+    clash_among(alloc, scene, &devices)
 }
 
 /// The first name that clashes where a cell's cards are flattened as those of a top whose ports are the cell's: that of a
 /// device before those of its nets. `0`, rails and ports are nets of the top and stand before all others. X cards are followed
-/// through at most 32 of them; the time taken goes by the number of cards to which the cell expands.
+/// through at most 32 of them; the time taken goes by the rails, the ports of all subcircuits, and the number of cards to which
+/// the cell expands. Names may be of any length.
 pub fn first_clash(
     alloc: Global,
     subs: &IndexMap<Name, Sub>,
@@ -63,13 +59,14 @@ pub fn first_clash(
     requires rails { AllDiffer rails.now }
     ensures clash { IfOk result (λ name. option_map name_clash name ≡ clash_in rails.now cell.now.head.ports (flat_devices rails.now (values subs.now) MOST_CALLS top_place cell.now.cards)) }
 {
-    let zero = Name::of(alloc, b"0")?;
     let ports = port_sets(alloc, subs.values().as_slice())?;
     let known = name_set(alloc, rails)?;
+    let own = name_set(alloc, cell.head().ports())?;
     let scene = Scene {
         subs,
         ports: &ports,
         rails: &known,
+        own: &own,
     };
-    clash_of_cell(alloc, &scene, &zero, rails, cell)
+    clash_of_cell(alloc, &scene, cell)
 }

@@ -1,29 +1,30 @@
-ghost use Rattle.std.specs.Prelude.{◌≡◌, ◌≤◌, ◌<◌, ◌^◌, ◌∷◌, [], Some, None, length, map, flat_map, codes, OnOk, IfOk, IfErr};
+ghost use Rattle.std.specs.Prelude.{◌≡◌, ◌≤◌, ◌<◌, ◌^◌, ◌∷◌, [], Some, None, length, map, flat_map, OnOk, IfOk, IfErr};
 ghost use Rattle.std.specs.Option.{option_copied};
 ghost use Rattle.indexmap.specs.IndexMap.{keys, values};
 ghost use Rattle.gl_text.specs.Decks.{once};
 ghost use Rattle.gl_text.specs.Flattening as flat;
-ghost use Rattle.gl_text.specs.Flattening.{TEXT as MOST_TEXT, flat_text, bearers, top_ports};
+ghost use Rattle.gl_text.specs.Flattening.{bearers, first_clash, net, top_net, top_ports};
 ghost use Rattle.gl_printed.specs.FlatDecks.{AreRails};
 ghost use Rattle.gl_printed.specs.ReadDecks.{IsReadDeck};
 ghost use Rattle.gl_deck.specs.Bodies.{bodies_value, names_of};
 ghost use Rattle.gl_size.specs.Excesses.{fault_of_excess};
 ghost use Rattle.gl_flat.specs.LongNames.{AreCountable, long_in};
-ghost use Rattle.gl_flat.specs.Numbered.{nets_of, numbered};
+ghost use Rattle.gl_flat.specs.Numbered.{nets_of, numbered, numbered_device};
 ghost use Rattle.gl_flat.specs.Refusals.{Gives, IsFound, fault_of};
 ghost use Rattle.gl_flat.specs.Steps.{all_devices, devices_in, excess_in, flat_with, judged as judged_by, text_fault};
+ghost use Rattle.gl_flat.specs.TopNames.{top_names};
 ghost use Rattle.gl_flat.specs.Ways.{IsScene};
 
 use crate::chosen::{Chosen, choose};
-use crate::clash::refuse_clash;
 use crate::copy::{model_copies, name_copies, name_copy, text_copies, top_copy};
 use crate::expand::expand;
 use crate::length::text_length;
 use crate::long::first_long;
-use crate::number::{net_names, numbered_all};
+use crate::number::number_devices;
 use crate::reached::Reached;
 use crate::scene::Scene;
-use crate::{Body, Deck, Flat, FlatFault, Head, Name, Sub, What};
+use crate::seen::Seen;
+use crate::{Body, Deck, Flat, FlatDevice, FlatFault, Head, Name, Sub, What};
 use gl_size::{Excess, first_excess};
 use indexmap::{IndexMap, IndexSet};
 use std::alloc::{AllocError, Global};
@@ -123,26 +124,45 @@ fn ports_of<'a>(head: Option<&'a Head>) -> &'a [Name]
     }
 }
 
-/// The flat deck of devices.
-fn flat_of(
+/// The nets of devices, and the devices with their nets by number; or the first clash of names.
+fn numbered_nets<'a>(
     alloc: Global,
+    scene: &Scene<'a>,
+    devices: &[Reached<'a>],
+) -> Result<(Vec<Name>, Vec<FlatDevice>), FlatFault>
+    requires few { length (nets_of devices.now) < 2 ^ 32 }
+    ensures fits { OnOk result (first_clash (map (λ n. net (top_net n)) (top_names scene.now)) (flat_map bearers devices.now) ≡ None) }
+    ensures nets { IfOk result (λ parts. parts.0.items ≡ nets_of devices.now) }
+    ensures devices { IfOk result (λ parts. parts.1.items ≡ map (numbered_device (nets_of devices.now)) devices.now) }
+    ensures refused { IfErr result (λ fault. IsFound (fault_of fault) (first_clash (map (λ n. net (top_net n)) (top_names scene.now)) (flat_map bearers devices.now))) }
+{
+    let mut seen = Seen::behind(alloc, scene);
+    let numbered = number_devices(alloc, &mut seen, devices)?;
+    Ok((seen.into_names(alloc)?, numbered))
+}
+
+/// The flat deck of devices, with their nets by number, or the first clash of names.
+fn flat_of<'a>(
+    alloc: Global,
+    scene: &Scene<'a>,
     deck: &Deck,
     rails: &[Name],
     head: Option<&Head>,
-    devices: &[Reached<'_>],
-) -> Result<Flat, AllocError>
+    devices: &[Reached<'a>],
+) -> Result<Flat, FlatFault>
     requires few { length (nets_of devices.now) < 2 ^ 32 }
+    ensures fits { OnOk result (first_clash (map (λ n. net (top_net n)) (top_names scene.now)) (flat_map bearers devices.now) ≡ None) }
     ensures flat { IfOk result (λ f. f ≡ numbered (flat_with deck.now rails.now (option_copied head.entry) devices.now)) }
+    ensures refused { IfErr result (λ fault. IsFound (fault_of fault) (first_clash (map (λ n. net (top_net n)) (top_names scene.now)) (flat_map bearers devices.now))) }
 {
-    let nets = net_names(alloc, devices)?;
-    let numbered = numbered_all(alloc, &nets, devices)?;
+    let (nets, devices) = numbered_nets(alloc, scene, devices)?;
     Ok(Flat {
         title: Vec::from_slice(alloc, deck.title())?,
         rails: name_copies(alloc, rails)?,
         models: model_copies(alloc, deck.models())?,
         top: top_copy(alloc, head)?,
-        nets: nets.into_iter().collect(alloc)?,
-        devices: numbered,
+        nets,
+        devices,
         passed: text_copies(alloc, deck.passed())?,
     })
 }
@@ -150,19 +170,19 @@ fn flat_of(
 /// The flat deck of devices, or its first refusal.
 fn judged<'a>(
     alloc: Global,
-    zero: &'a Name,
+    scene: &Scene<'a>,
     deck: &Deck,
-    rails: &'a [Name],
-    head: Option<&'a Head>,
+    rails: &[Name],
+    head: Option<&Head>,
     devices: &[Reached<'a>],
 ) -> Result<Flat, FlatFault>
-    requires zero { zero.now ≡ codes "0" }
+    requires rails { scene.now.rails.now.keys ≡ once rails.now }
+    requires own { scene.now.own.now.keys ≡ once (top_ports (option_copied head)) }
     ensures gives { Gives result (judged_by deck.now rails.now (option_copied head.entry) devices.now) }
 {
     refuse_text(deck, rails, head, devices)?;
     refuse_long(devices)?;
-    refuse_clash(alloc, zero, rails, ports_of(head), devices)?;
-    Ok(flat_of(alloc, deck, rails, head, devices)?)
+    flat_of(alloc, scene, deck, rails, head, devices)
 }
 
 /// The devices of cards.
@@ -183,17 +203,17 @@ pub fn expanded<'a>(
 fn flat_of_cards<'a>(
     alloc: Global,
     scene: &Scene<'a>,
-    zero: &'a Name,
     deck: &Deck,
-    rails: &'a [Name],
+    rails: &[Name],
     chosen: Chosen<'a>,
 ) -> Result<Flat, FlatFault>
-    requires zero { zero.now ≡ codes "0" }
     requires scene { IsScene scene.now }
+    requires rails { scene.now.rails.now.keys ≡ once rails.now }
+    requires own { scene.now.own.now.keys ≡ once (top_ports (option_copied chosen.head)) }
     ensures gives { Gives result (judged_by deck.now rails.now (option_copied chosen.entry.head) (devices_in scene.now chosen.entry.cards.now)) }
 {
     let devices = expanded(alloc, scene, chosen.cards)?;
-    judged(alloc, zero, deck, rails, chosen.head, &devices)
+    judged(alloc, scene, deck, rails, chosen.head, &devices)
 }
 
 /// The flat deck of what is chosen, or its first refusal.
@@ -207,15 +227,16 @@ fn flat_of_chosen(
     requires rails { AreRails rails.now }
     ensures gives { Gives result (judged_by deck.now rails.now (option_copied chosen.entry.head) (all_devices deck.now rails.now (bodies_value chosen.entry.cards.now))) }
 {
-    let zero = Name::of(alloc, b"0")?;
     let ports = port_sets(alloc, deck.subs().values().as_slice())?;
     let known = name_set(alloc, rails)?;
+    let own = name_set(alloc, ports_of(chosen.head))?;
     let scene = Scene {
         subs: deck.subs(),
         ports: &ports,
         rails: &known,
+        own: &own,
     };
-    flat_of_cards(alloc, &scene, &zero, deck, rails, chosen)
+    flat_of_cards(alloc, &scene, deck, rails, chosen)
 }
 
 /// The flat deck: every device with its flat name and its nets, or the first refusal. The rails are the names that are global

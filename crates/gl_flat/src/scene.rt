@@ -3,6 +3,7 @@ ghost use Rattle.indexmap.specs.IndexMap.{values};
 ghost use Rattle.gl_text.specs.LogicalLines.{same_text};
 ghost use Rattle.gl_text.specs.Decks as decks;
 ghost use Rattle.gl_text.specs.Flattening as flat;
+ghost use Rattle.gl_flat.specs.TopNames.{top_names};
 ghost use Rattle.gl_flat.specs.Ways.{IsScene};
 
 use crate::{Name, Sub};
@@ -17,6 +18,8 @@ pub struct Scene<'a> {
     pub ports: &'a [IndexSet<Name>],
     /// The rails but `0`.
     pub rails: &'a IndexSet<Name>,
+    /// The ports of the top.
+    pub own: &'a IndexSet<Name>,
 }
 
 /// A subcircuit that is called.
@@ -45,4 +48,11 @@ pub fn is_rail(rails: &IndexSet<Name>, name: &Name) -> bool
     ensures rail { result ≡ flat.is_rail rails.now.keys name.now }
 {
     name.as_bytes() == b"0".as_slice() || rails.contains(name)
+}
+
+/// The name is that of a net of the top that stands before all others: `0`, a rail or a port.
+pub fn is_top(scene: &Scene<'_>, name: &Name) -> bool
+    ensures top { result ≡ decks.is_in name.now (top_names scene.now) }
+{
+    is_rail(scene.rails, name) || scene.own.contains(name)
 }

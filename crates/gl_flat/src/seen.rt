@@ -1,32 +1,40 @@
 ghost use Rattle.std.specs.Prelude.{◌≡◌, ◌∷◌, [], Ok, map, flat_map, OnOk, IfOk, IfErr};
 ghost use Rattle.gl_text.specs.Flattening.{bearers, device, net, net_name};
+ghost use Rattle.gl_flat.specs.Numbered.{number_in};
 ghost use Rattle.gl_flat.specs.Refusals.{IsRefusal, fault_of};
-ghost use Rattle.gl_flat.specs.SeenNames.{nothing_seen, seen_all};
+ghost use Rattle.gl_flat.specs.SeenNames.{net_names, nothing_seen, seen_all, takes_top_name as is_taken_from_top};
+ghost use Rattle.gl_flat.specs.TopNames.{top_names};
 
+use crate::copy::name_copy;
 use crate::naming::{device_text, flat_name};
 use crate::net::Net;
 use crate::reached::Reached;
 use crate::same::same_net;
+use crate::scene::{Scene, is_top};
 use crate::{FlatFault, Name};
 use indexmap::{IndexMap, IndexSet};
 use std::alloc::{AllocError, Global};
 use std::marker::Model;
 
-/// Flat names that were seen. Contracts see the names of devices, and those of nets, each with the net that has it.
+/// Flat names that were seen behind the nets of the top. Contracts see the names of the top, of devices, and of the devices'
+/// nets, each with the net that has it.
 #[derive(Drop)]
 pub struct Seen<'a> {
+    /// What cards are read against, and so the nets of the top.
+    pub scene: Scene<'a>,
     /// The names of devices.
     pub devices: IndexSet<Name>,
-    /// The flat names of nets, each with its net.
+    /// The flat names of the devices' nets, each with its net.
     pub nets: IndexMap<Name, Net<'a>>,
 }
 
 impl<'a> Model for Seen<'a> {
     ghost use Rattle.gl_flat.specs.SeenNames.{Seen as SeenValue};
+    ghost use Rattle.gl_flat.specs.TopNames.{top_names};
 
     ghost Value = { SeenValue };
 
-    ghost view = { λ s. record { devices = s.devices.keys; nets = s.nets.entries } };
+    ghost view = { λ s. record { tops = top_names s.scene; devices = s.devices.keys; nets = s.nets.entries } };
 }
 
 /// A copy of a net.
@@ -39,46 +47,78 @@ fn copy_of<'a>(alloc: Global, net: &Net<'a>) -> Result<Net<'a>, AllocError>
     })
 }
 
+/// The names in a table, in order.
+fn keys_of(alloc: Global, nets: IndexMap<Name, Net<'_>>) -> Result<Vec<Name>, AllocError>
+    ensures keys { IfOk result (λ names. names.items ≡ map (λ e. e.0) nets.entry.entries) }
+{
+    nets.into_keys().collect(alloc)
+}
+
 impl<'a> Seen<'a> {
-    /// Nothing was seen.
-    pub fn new(alloc: Global) -> Seen<'a>
-        ensures nothing { result ≡ nothing_seen }
+    /// Nets of the top alone were seen.
+    pub fn behind(alloc: Global, scene: &Scene<'a>) -> Seen<'a>
+        ensures nothing { result ≡ nothing_seen (top_names scene.now) }
     {
         Seen {
+            scene: *scene,
             devices: IndexSet::new(alloc),
             nets: IndexMap::new(alloc),
         }
     }
 
     /// Adds a device's name, or refuses one that was seen.
-    fn add_device(&mut self, name: Name) -> Result<(), FlatFault>
-        ensures ok { OnOk result (seen_all self.old (device name ∷ []) ≡ Ok self.new) }
-        ensures refused { IfErr result (λ fault. IsRefusal (fault_of fault) (seen_all self.old (device name ∷ []))) }
+    pub fn add_device(&mut self, alloc: Global, name: &Name) -> Result<(), FlatFault>
+        ensures ok { OnOk result (seen_all self.old (device name.now ∷ []) ≡ Ok self.new) }
+        ensures refused { IfErr result (λ fault. IsRefusal (fault_of fault) (seen_all self.old (device name.now ∷ []))) }
     {
-        if self.devices.contains(&name) {
-            return Err(FlatFault::NameClash { name });
+        if self.devices.insert(name_copy(alloc, name)?)? {
+            return Ok(());
         }
-        self.devices.insert(name)?;
-        Ok(())
+        Err(FlatFault::NameClash {
+            name: name_copy(alloc, name)?,
+        })
     }
 
-    /// Adds a net, or refuses one whose flat name another net has.
-    pub fn add_net(&mut self, alloc: Global, added: &Net<'a>) -> Result<(), FlatFault>
+    /// The net is none of the top, and its flat name is that of one.
+    fn takes_top_name(&self, added: &Net<'a>, name: &Name) -> bool
+        requires name { name.now ≡ net_name added.now }
+        ensures takes { result ≡ is_taken_from_top self.now added.now }
+    {
+        !added.path.is_empty() && is_top(&self.scene, name)
+    }
+
+    /// Adds a net, or refuses one whose flat name another net has. Its number is given: nets are numbered from 0 by the first
+    /// appearance of their flat names.
+    pub fn add_net(&mut self, alloc: Global, added: &Net<'a>) -> Result<usize, FlatFault>
         ensures ok { OnOk result (seen_all self.old (net added.now ∷ []) ≡ Ok self.new) }
+        ensures number { IfOk result (λ number. number ≡ number_in (net_names self.new) (net_name added.now)) }
         ensures refused { IfErr result (λ fault. IsRefusal (fault_of fault) (seen_all self.old (net added.now ∷ []))) }
     {
         let name = flat_name(alloc, added)?;
-        if let Some(known) = self.nets.get(name.as_name()) {
+        if let Some((number, _, known)) = self.nets.get_full(name.as_name()) {
             if same_net(added, known) {
-                return Ok(());
+                return Ok(number);
             }
             return Err(FlatFault::NameClash {
                 name: name.into_name(alloc)?,
             });
         }
+        if self.takes_top_name(added, name.as_name()) {
+            return Err(FlatFault::NameClash {
+                name: name.into_name(alloc)?,
+            });
+        }
+        let number = self.nets.len();
         self.nets
             .insert(name.into_name(alloc)?, copy_of(alloc, added)?)?;
-        Ok(())
+        Ok(number)
+    }
+
+    /// The flat names of the devices' nets, by their numbers.
+    pub fn into_names(self, alloc: Global) -> Result<Vec<Name>, AllocError>
+        ensures names { IfOk result (λ names. names.items ≡ net_names self.entry) }
+    {
+        keys_of(alloc, self.nets)
     }
 
     /// Adds nets, or refuses the first whose flat name another net has.
@@ -97,7 +137,7 @@ impl<'a> Seen<'a> {
         ensures ok { OnOk result (seen_all self.old (bearers added.now) ≡ Ok self.new) }
         ensures refused { IfErr result (λ fault. IsRefusal (fault_of fault) (seen_all self.old (bearers added.now))) }
     {
-        self.add_device(device_text(alloc, added)?)?;
+        self.add_device(alloc, &device_text(alloc, added)?)?;
         self.add_nets(alloc, &added.nets)
     }
 

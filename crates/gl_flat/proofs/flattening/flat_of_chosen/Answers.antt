@@ -9,17 +9,14 @@ use Rattle.gl_flat.proofs.SoundLaws.{once_same, ports_differ, ports_once}
 use Rattle.gl_flat.proofs.StepLaws.{gives_same, same_devices, no_memory}
 use Rattle.gl_flat.proofs.flattening.flat_of_chosen.Goals as goal
 
-pub returns-in_err-zero : goal.returns-in_err-zero
-returns-in_err-zero c = record { gives = no_memory c.from_residual.result _ c.from_residual.ensures.1 }
-
 pub returns-in_err-ports : goal.returns-in_err-ports
-returns-in_err-ports c = record { gives = no_memory c.from_residual-in_err-ports.result _ c.from_residual-in_err-ports.ensures.1 }
+returns-in_err-ports c = record { gives = no_memory c.from_residual.result _ c.from_residual.ensures.1 }
 
 pub returns-in_err-known : goal.returns-in_err-known
 returns-in_err-known c = record { gives = no_memory c.from_residual-in_err-known.result _ c.from_residual-in_err-known.ensures.1 }
 
-pub flat_of_cards-requires-clause-zero : goal.flat_of_cards-requires-clause-zero
-flat_of_cards-requires-clause-zero c = c.in_ok-zero.ensures.bytes
+pub returns-in_err-own : goal.returns-in_err-own
+returns-in_err-own c = record { gives = no_memory c.from_residual-in_err-own.result _ c.from_residual-in_err-own.ensures.1 }
 
 pub flat_of_cards-requires-clause-scene : goal.flat_of_cards-requires-clause-scene
 flat_of_cards-requires-clause-scene c =
@@ -29,6 +26,12 @@ flat_of_cards-requires-clause-scene c =
       keyed = c.subs-2.ensures.keyed;
       ports = ap (map (λ s. s.keys)) c.deref.ensures.value ∙ c.in_ok-ports.ensures.ports ∙ ap (map (λ (s : Sub). once s.head.ports)) given ∙ ports_once subs (ports_differ subs subs c.requires.sound.subs) ∙ ap (map (λ (s : Sub). s.head.ports)) (sym c.subs-2.ensures.subs);
     }
+
+pub flat_of_cards-requires-clause-rails : goal.flat_of_cards-requires-clause-rails
+flat_of_cards-requires-clause-rails c = c.in_ok-known.ensures.names
+
+pub flat_of_cards-requires-clause-own : goal.flat_of_cards-requires-clause-own
+flat_of_cards-requires-clause-own c = c.in_ok-own.ensures.names ∙ ap once (ap (λ ps. ps) c.ports_of.ensures.ports)
 
 pub returns : goal.returns
 returns c =

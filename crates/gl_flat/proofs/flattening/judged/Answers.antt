@@ -1,10 +1,13 @@
-use Rattle.std.proofs.Common.{◌≡◌, ◌∙◌, ap, sym, flat_map, List, None}
+use Rattle.std.proofs.Common.{subst, map, flat_map}
 use Rattle.std.specs.Option.{option_copied}
-use Rattle.gl_text.specs.Flattening.{FlatDevice, bearers, top_ports}
+use Rattle.gl_text.specs.Flattening.{bearers, first_clash, net, top_net, top_ports}
 use Rattle.gl_flat.specs.LongNames.{long_in}
-use Rattle.gl_flat.specs.Steps.{flat_with, text_fault, clash_in}
+use Rattle.gl_flat.specs.Refusals.{Gives}
+use Rattle.gl_flat.specs.Steps.{flat_with, text_fault, checked}
+use Rattle.gl_flat.specs.TopNames.{top_names}
 use Rattle.gl_flat.proofs.BoundLaws.{names_countable, nets_fit}
-use Rattle.gl_flat.proofs.StepLaws.{short_text, none_refuses}
+use Rattle.gl_flat.proofs.ClashLaws.{clash_same}
+use Rattle.gl_flat.proofs.StepLaws.{short_text, clash_decides}
 use Rattle.gl_flat.proofs.flattening.judged.Goals as goal
 
 pub refuse_long-requires : goal.refuse_long-requires
@@ -23,5 +26,10 @@ returns c =
     let rails = c.args.rails.now in
     let ports = top_ports (option_copied c.args.head) in
     let flat = flat_with c.args.deck.now rails (option_copied c.args.head) ds in
-    let clash : clash_in rails ports ds ≡ None = ap (λ x. clash_in rails x ds) (sym c.ports_of.ensures.ports) ∙ c.in_ok-refuse_clash.ensures.ok in
-    record { gives = (flat, none_refuses flat (text_fault flat) (long_in (flat_map bearers ds)) (clash_in rails ports ds) c.in_ok-refuse_text.ensures.ok c.in_ok-refuse_long.ensures.ok clash, c.in_ok-flat_of.ensures.flat) }
+    let bs = flat_map bearers ds in
+    let same = clash_same c.args.scene.now.rails.now.keys c.args.scene.now.own.now.keys rails ports bs c.requires.rails c.requires.own in
+    let found = first_clash (map (λ n. net (top_net n)) (top_names c.args.scene.now)) bs in
+    record {
+      gives = subst (λ x. Gives c.flat_of.result (checked flat (text_fault flat) (long_in bs) x)) same
+          (clash_decides c.flat_of.result flat (text_fault flat) (long_in bs) found c.in_ok-refuse_text.ensures.ok c.in_ok-refuse_long.ensures.ok c.flat_of.ensures.fits c.flat_of.ensures.flat c.flat_of.ensures.refused);
+    }
