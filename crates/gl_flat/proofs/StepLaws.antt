@@ -39,6 +39,11 @@ refuses : (o w : Option Fault) (f : Flat) (k : Flat → Result Flat Fault) → I
 refuses None w f k h = tt
 refuses (Some g) w f k h = ap (λ v. or_else v f >>= k) h
 
+-- a refusal that is told exactly is found
+pub found_exact : (o w : Option Fault) → o ≡ w → IsFound o w
+found_exact None w e = tt
+found_exact (Some g) w e = sym e
+
 pub first_refuses : (o : Option Fault) (f : Flat) (a b c : Option Fault) → IsFound o a → IsRefusal o (checked f a b c)
 first_refuses o f a b c h = refuses o a f (λ g. or_else b g >>= λ x. or_else c x) h
 

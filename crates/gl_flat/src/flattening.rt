@@ -94,7 +94,7 @@ fn refuse_text(
     devices: &[Reached<'_>],
 ) -> Result<(), FlatFault>
     ensures ok { OnOk result (text_fault (flat_with deck.now rails.now (option_copied head.entry) devices.now) ≡ None) }
-    ensures refused { IfErr result (λ fault. IsFound (fault_of fault) (text_fault (flat_with deck.now rails.now (option_copied head.entry) devices.now))) }
+    ensures refused { IfErr result (λ fault. fault_of fault ≡ text_fault (flat_with deck.now rails.now (option_copied head.entry) devices.now)) }
 {
     if text_length(deck, rails, head, devices) > TEXT {
         return Err(FlatFault::LongText { number: 67_108_865 });
@@ -106,7 +106,7 @@ fn refuse_text(
 fn refuse_long(devices: &[Reached<'_>]) -> Result<(), FlatFault>
     requires short { AreCountable (flat_map bearers devices.now) }
     ensures ok { OnOk result (long_in (flat_map bearers devices.now) ≡ None) }
-    ensures refused { IfErr result (λ fault. IsFound (fault_of fault) (long_in (flat_map bearers devices.now))) }
+    ensures refused { IfErr result (λ fault. fault_of fault ≡ long_in (flat_map bearers devices.now)) }
 {
     match first_long(devices) {
         Some(len) => Err(FlatFault::LongFlatName { len }),
