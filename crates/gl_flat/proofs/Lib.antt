@@ -15,4 +15,5 @@ pub mod SeenLaws
 pub mod SeenNumbers
 pub mod SoundLaws
 pub mod StepLaws
+pub mod TopNets
 pub mod WayLaws

@@ -2,6 +2,7 @@ pub mod FlatNets
 pub mod Lengths
 pub mod LongNames
 pub mod Numbered
+pub mod Reached
 pub mod Refusals
 pub mod SeenNames
 pub mod TopNames

@@ -1,8 +1,8 @@
 -- What a refusal of the code means, and what flattening gives.
-use Rattle.std.specs.Prelude.{◌≡◌, ℕ, Option, Some, None, Result, Ok, Err, ⊤}
+use Rattle.std.specs.Prelude.{◌≡◌, ℕ, List, Option, Some, None, Result, Ok, Err, ⊤}
 use Rattle.gl_text.specs.LogicalLines as lines
 use Rattle.gl_text.specs.LogicalLines.{Fault}
-use Rattle.gl_text.specs.Flattening.{Flat}
+use Rattle.gl_text.specs.Flattening.{Flat, flat_text}
 use Rattle.gl_flat.specs.Numbered.{Numbered, numbered}
 use Rattle.gl_flat.specs.declared.fault.What.{What}
 use Rattle.gl_flat.specs.declared.fault.What.TheVariants as what
@@ -34,7 +34,15 @@ abbrev pub IsFound : Option Fault → Option Fault → Type 0
 IsFound None found = ⊤
 IsFound (Some fault) found = found ≡ Some fault
 
--- a flat deck, numbered, exactly where there is one; else the refusal; want of memory may come in place of either
+-- what is made of a flat deck, exactly where there is one; else the refusal; want of memory may come in place of either
+abbrev pub GivesOf : {V : Type 0} → (V → Flat → Type 0) → Result V FlatFault → Result Flat Fault → Type 0
+GivesOf IsMade (Ok v) wanted = (w : Flat) × (wanted ≡ Ok w) × IsMade v w
+GivesOf IsMade (Err fault) wanted = IsRefusal (fault_of fault) wanted
+
+-- a flat deck, numbered
 abbrev pub Gives : Result Numbered FlatFault → Result Flat Fault → Type 0
-Gives (Ok v) wanted = (w : Flat) × (wanted ≡ Ok w) × (v ≡ numbered w)
-Gives (Err fault) wanted = IsRefusal (fault_of fault) wanted
+Gives = GivesOf (λ v w. v ≡ numbered w)
+
+-- the text of a flat deck
+abbrev pub GivesText : Result (List ℕ) FlatFault → Result Flat Fault → Type 0
+GivesText = GivesOf (λ text w. text ≡ flat_text w)

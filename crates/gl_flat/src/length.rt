@@ -98,6 +98,27 @@ fn add_nodes(total: usize, nets: &[Net<'_>]) -> usize
     sum
 }
 
+/// Adds the lengths of spaces and names of nets of the top.
+fn add_top_nodes(total: usize, names: &[Name]) -> usize
+    ensures total { result ≡ after total (spaced_all (map flat.net_name (map flat.top_net names.now))) }
+{
+    let mut sum = total;
+    for name in names {
+        sum = add_word(sum, name.as_bytes());
+    }
+    sum
+}
+
+/// Adds the lengths of spaces and a device's nets.
+fn add_places(total: usize, device: &Reached<'_>) -> usize
+    ensures total { result ≡ after total (spaced_all (map flat.net_name device.now.nets)) }
+{
+    match &device.nets {
+        None => add_top_nodes(total, device.card.nodes()),
+        Some(nets) => add_nodes(total, nets),
+    }
+}
+
 /// Adds the length of a space and a word, if there is a word.
 fn add_option(total: usize, word: Option<&Name>) -> usize
     ensures total { result ≡ after total (spaced_all (option_to_list (option_copied word.entry))) }
@@ -123,7 +144,7 @@ fn add_device(total: usize, device: &Reached<'_>) -> usize
     ensures total { result ≡ after total (flat_line device.now) }
 {
     let named = add_own(total, device);
-    let placed = add_nodes(named, &device.nets);
+    let placed = add_places(named, device);
     let modelled = add_option(placed, device.card.model());
     let tailed = add_tail(modelled, device.card.tail().as_bytes());
     add(tailed, b"\n")

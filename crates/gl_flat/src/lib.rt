@@ -24,6 +24,7 @@ mod seen;
 mod step;
 #[cfg(test)]
 mod tests;
+mod text;
 mod way;
 
 pub use cell::first_clash;

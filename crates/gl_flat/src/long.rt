@@ -1,9 +1,10 @@
 ghost use Rattle.std.specs.Prelude.{◌≡◌, ◌<◌, ◌^◌, map, flat_map, nat_lt, option_map};
 ghost use Rattle.gl_text.specs.LogicalLines.{NAME as MOST_BYTES, long_flat_name};
 ghost use Rattle.gl_text.specs.Cards.{when};
-ghost use Rattle.gl_text.specs.Flattening.{bearers, net};
+ghost use Rattle.gl_text.specs.Flattening.{bearers, net, top_net};
 ghost use Rattle.gl_flat.specs.LongNames.{AreCountable, long_in};
 
+use crate::Name;
 use crate::length::{device_length, net_length};
 use crate::net::Net;
 use crate::reached::Reached;
@@ -37,6 +38,32 @@ fn long_net(nets: &[Net<'_>]) -> Option<u32>
     None
 }
 
+/// The length of the first name of a net of the top that is too long.
+fn long_top(names: &[Name]) -> Option<u32>
+    requires short { AreCountable (map net (map top_net names.now)) }
+    ensures long { option_map long_flat_name result ≡ long_in (map net (map top_net names.now)) }
+{
+    let mut rest = names;
+    while let [name, behind @ ..] = rest {
+        if let Some(len) = too_long(name.as_bytes().len()) {
+            return Some(len);
+        }
+        rest = behind;
+    }
+    None
+}
+
+/// The length of the first flat name of a device's nets that is too long.
+fn long_place(device: &Reached<'_>) -> Option<u32>
+    requires short { AreCountable (map net device.now.nets) }
+    ensures long { option_map long_flat_name result ≡ long_in (map net device.now.nets) }
+{
+    match &device.nets {
+        None => long_top(device.card.nodes()),
+        Some(nets) => long_net(nets),
+    }
+}
+
 /// The length of the first flat name of a device and its nets that is too long.
 fn long_of(device: &Reached<'_>) -> Option<u32>
     requires short { AreCountable (bearers device.now) }
@@ -44,7 +71,7 @@ fn long_of(device: &Reached<'_>) -> Option<u32>
 {
     match too_long(device_length(device)) {
         Some(len) => Some(len),
-        None => long_net(&device.nets),
+        None => long_place(device),
     }
 }
 

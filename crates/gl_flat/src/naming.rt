@@ -28,13 +28,21 @@ fn put_path(out: &mut Vec<u8>, path: &[&Name]) -> Result<(), AllocError>
     Ok(())
 }
 
+/// Appends a net's flat name.
+pub fn put_net(out: &mut Vec<u8>, net: &Net<'_>) -> Result<(), AllocError>
+    ensures ok { OnOk result (out.new.items ≡ out.old.items ++ flat.net_name net.now) }
+{
+    put_path(out, &net.path)?;
+    out.extend_from_slice(net.name.as_bytes())?;
+    Ok(())
+}
+
 /// The text of a net's flat name.
 fn net_text(alloc: Global, net: &Net<'_>) -> Result<Name, AllocError>
     ensures name { IfOk result (λ name. name ≡ flat.net_name net.now) }
 {
     let mut bytes = Vec::new(alloc);
-    put_path(&mut bytes, &net.path)?;
-    bytes.extend_from_slice(net.name.as_bytes())?;
+    put_net(&mut bytes, net)?;
     Ok(Name { bytes })
 }
 
@@ -60,18 +68,25 @@ fn first_byte(name: &[u8]) -> u8
     }
 }
 
+/// Appends a device's flat name.
+pub fn put_device_name(out: &mut Vec<u8>, device: &Reached<'_>) -> Result<(), AllocError>
+    ensures ok { OnOk result (out.new.items ≡ out.old.items ++ flat.device_name device.now) }
+{
+    let name = device.card.name().as_bytes();
+    if !device.path.is_empty() {
+        out.push(first_byte(name))?;
+        out.push(b'.')?;
+        put_path(out, &device.path)?;
+    }
+    out.extend_from_slice(name)?;
+    Ok(())
+}
+
 /// A device's flat name.
 pub fn device_text(alloc: Global, device: &Reached<'_>) -> Result<Name, AllocError>
     ensures name { IfOk result (λ name. name ≡ flat.device_name device.now) }
 {
-    let name = device.card.name().as_bytes();
-    if device.path.is_empty() {
-        return Name::of(alloc, name);
-    }
     let mut bytes = Vec::new(alloc);
-    bytes.push(first_byte(name))?;
-    bytes.push(b'.')?;
-    put_path(&mut bytes, &device.path)?;
-    bytes.extend_from_slice(name)?;
+    put_device_name(&mut bytes, device)?;
     Ok(Name { bytes })
 }

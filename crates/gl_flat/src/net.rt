@@ -1,4 +1,8 @@
+ghost use Rattle.std.specs.Prelude.{◌≡◌};
+ghost use Rattle.gl_text.specs.Flattening as flat;
+
 use crate::Name;
+use std::alloc::Global;
 use std::marker::Model;
 
 /// A net. Contracts see it as the X cards on the way to its scope, and its name there.
@@ -17,4 +21,16 @@ impl<'a> Model for Net<'a> {
     ghost Value = { NetValue };
 
     ghost view = { λ n. record { path = map (λ x. x.now) n.path.items; name = n.name.now } };
+}
+
+impl<'a> Net<'a> {
+    /// The net of the top of a name. It takes no memory.
+    pub fn of_top(alloc: Global, name: &'a Name) -> Net<'a>
+        ensures net { result ≡ flat.top_net name.now }
+    {
+        Net {
+            path: Vec::new(alloc),
+            name,
+        }
+    }
 }

@@ -12,7 +12,7 @@ use crate::naming::device_text;
 use crate::net::Net;
 use crate::reached::Reached;
 use crate::seen::Seen;
-use crate::{FlatDevice, FlatFault};
+use crate::{FlatDevice, FlatFault, Name};
 use std::alloc::Global;
 
 /// Adds a net, and gives its number.
@@ -44,6 +44,42 @@ fn number_nets<'a>(
     Ok(numbers)
 }
 
+/// Adds nets of the top by their names, and gives their numbers; or refuses the first that clashes.
+fn number_top_nets<'a>(
+    alloc: Global,
+    seen: &mut Seen<'a>,
+    names: &'a [Name],
+) -> Result<Vec<u32>, FlatFault>
+    requires few { length (insert_all same_text (net_names seen.old) (map flat.net_name (map flat.top_net names.now))) < 2 ^ 32 }
+    ensures ok { OnOk result (seen_all seen.old (map flat.net (map flat.top_net names.now)) ≡ Ok seen.new) }
+    ensures numbers { IfOk result (λ numbers. numbers.items ≡ map (λ n. number_in (net_names seen.new) (flat.net_name n)) (map flat.top_net names.now)) }
+    ensures refused { IfErr result (λ fault. IsRefusal (fault_of fault) (seen_all seen.old (map flat.net (map flat.top_net names.now)))) }
+{
+    let mut numbers = Vec::with_capacity(alloc, names.len())?;
+    for name in names {
+        let net = Net::of_top(alloc, name);
+        numbers.push(number_net(alloc, seen, &net)?)?;
+    }
+    Ok(numbers)
+}
+
+/// Adds a device's nets, and gives their numbers; or refuses the first that clashes.
+fn number_places<'a>(
+    alloc: Global,
+    seen: &mut Seen<'a>,
+    device: &Reached<'a>,
+) -> Result<Vec<u32>, FlatFault>
+    requires few { length (insert_all same_text (net_names seen.old) (map flat.net_name device.now.nets)) < 2 ^ 32 }
+    ensures ok { OnOk result (seen_all seen.old (map flat.net device.now.nets) ≡ Ok seen.new) }
+    ensures numbers { IfOk result (λ numbers. numbers.items ≡ map (λ n. number_in (net_names seen.new) (flat.net_name n)) device.now.nets) }
+    ensures refused { IfErr result (λ fault. IsRefusal (fault_of fault) (seen_all seen.old (map flat.net device.now.nets))) }
+{
+    match &device.nets {
+        None => number_top_nets(alloc, seen, device.card.nodes()),
+        Some(nets) => number_nets(alloc, seen, nets),
+    }
+}
+
 /// Adds a device's name and its nets, and gives the device with its nets by their numbers; or refuses the first that clashes.
 fn number_device<'a>(
     alloc: Global,
@@ -57,7 +93,7 @@ fn number_device<'a>(
 {
     let name = device_text(alloc, device)?;
     seen.add_device(alloc, &name)?;
-    let nodes = number_nets(alloc, seen, &device.nets)?;
+    let nodes = number_places(alloc, seen, device)?;
     let card = device.card;
     Ok(FlatDevice {
         name,

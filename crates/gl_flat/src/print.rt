@@ -29,7 +29,7 @@ fn put_global(out: &mut Vec<u8>, name: &Name) -> Result<(), Memory>
 }
 
 /// Appends a card for each rail.
-fn put_globals(out: &mut Vec<u8>, names: &[Name]) -> Result<(), Memory>
+pub fn put_globals(out: &mut Vec<u8>, names: &[Name]) -> Result<(), Memory>
     ensures ok { OnOk result (out.new.items ≡ out.old.items ++ flat_map global_line names.now) }
     ensures front { take (length out.old.items) out.new.items ≡ out.old.items }
 {
@@ -49,7 +49,7 @@ fn put_model(out: &mut Vec<u8>, model: &ModelCard) -> Result<(), Memory>
 }
 
 /// Appends the models.
-fn put_models(out: &mut Vec<u8>, models: &[ModelCard]) -> Result<(), Memory>
+pub fn put_models(out: &mut Vec<u8>, models: &[ModelCard]) -> Result<(), Memory>
     ensures ok { OnOk result (out.new.items ≡ out.old.items ++ flat_map model_line models.now) }
     ensures front { take (length out.old.items) out.new.items ≡ out.old.items }
 {
@@ -70,7 +70,7 @@ fn net_name<'a>(nets: &'a [Name], number: u32) -> &'a [u8]
 }
 
 /// Appends a space and a word.
-fn put_word(out: &mut Vec<u8>, word: &[u8]) -> Result<(), Memory>
+pub fn put_word(out: &mut Vec<u8>, word: &[u8]) -> Result<(), Memory>
     ensures ok { OnOk result (out.new.items ≡ out.old.items ++ spaced_all (word.now ∷ [])) }
     ensures front { take (length out.old.items) out.new.items ≡ out.old.items }
 {
@@ -101,7 +101,7 @@ fn put_device_model(out: &mut Vec<u8>, device: &FlatDevice) -> Result<(), Memory
 }
 
 /// Appends a space and the tail, if it is not empty.
-fn put_tail(out: &mut Vec<u8>, tail: &[u8]) -> Result<(), Memory>
+pub fn put_tail(out: &mut Vec<u8>, tail: &[u8]) -> Result<(), Memory>
     ensures ok { OnOk result (out.new.items ≡ out.old.items ++ spaced tail.now) }
     ensures front { take (length out.old.items) out.new.items ≡ out.old.items }
 {
@@ -137,7 +137,7 @@ fn put_devices(out: &mut Vec<u8>, nets: &[Name], devices: &[FlatDevice]) -> Resu
 }
 
 /// Appends the card that opens the top subcircuit.
-fn put_head(out: &mut Vec<u8>, head: &Head) -> Result<(), Memory>
+pub fn put_head(out: &mut Vec<u8>, head: &Head) -> Result<(), Memory>
     ensures ok { OnOk result (out.new.items ≡ out.old.items ++ decks.line_of (cards.subckt head.now)) }
     ensures front { take (length out.old.items) out.new.items ≡ out.old.items }
 {
@@ -146,7 +146,7 @@ fn put_head(out: &mut Vec<u8>, head: &Head) -> Result<(), Memory>
 }
 
 /// Appends the card that closes the top subcircuit.
-fn put_ends(out: &mut Vec<u8>, name: &Name) -> Result<(), Memory>
+pub fn put_ends(out: &mut Vec<u8>, name: &Name) -> Result<(), Memory>
     ensures ok { OnOk result (out.new.items ≡ out.old.items ++ decks.line_of (cards.ends (Some name.now))) }
     ensures front { take (length out.old.items) out.new.items ≡ out.old.items }
 {
@@ -171,7 +171,7 @@ fn put_around(out: &mut Vec<u8>, flat: &Flat) -> Result<(), Memory>
 }
 
 /// Appends a title, or a card that is carried along.
-fn put_text(out: &mut Vec<u8>, text: &[u8]) -> Result<(), Memory>
+pub fn put_text(out: &mut Vec<u8>, text: &[u8]) -> Result<(), Memory>
     ensures ok { OnOk result (out.new.items ≡ out.old.items ++ passed_line text.now) }
     ensures front { take (length out.old.items) out.new.items ≡ out.old.items }
 {
@@ -180,7 +180,7 @@ fn put_text(out: &mut Vec<u8>, text: &[u8]) -> Result<(), Memory>
 }
 
 /// Appends the cards that are carried along.
-fn put_all_passed(out: &mut Vec<u8>, texts: &[Vec<u8>]) -> Result<(), Memory>
+pub fn put_all_passed(out: &mut Vec<u8>, texts: &[Vec<u8>]) -> Result<(), Memory>
     ensures ok { OnOk result (out.new.items ≡ out.old.items ++ flat_map passed_line (map (λ t. t.items) texts.now)) }
     ensures front { take (length out.old.items) out.new.items ≡ out.old.items }
 {

@@ -9,15 +9,16 @@ pub struct Reached<'a> {
     pub path: Vec<&'a Name>,
     /// Its card.
     pub card: &'a DevCard,
-    /// Its nets, place by place.
-    pub nets: Vec<Net<'a>>,
+    /// Its nets, place by place; nothing at the top, where the nodes of its card are its nets.
+    pub nets: Option<Vec<Net<'a>>>,
 }
 
 impl<'a> Model for Reached<'a> {
-    ghost use Rattle.std.specs.Prelude.{map};
+    ghost use Rattle.std.specs.Prelude.{map, option_map};
     ghost use Rattle.gl_text.specs.Flattening.{FlatDevice as DeviceValue};
+    ghost use Rattle.gl_flat.specs.Reached.{nets_by};
 
     ghost Value = { DeviceValue };
 
-    ghost view = { λ d. record { path = map (λ x. x.now) d.path.items; card = d.card.now; nets = d.nets.items } };
+    ghost view = { λ d. record { path = map (λ x. x.now) d.path.items; card = d.card.now; nets = nets_by (option_map (λ v. v.items) d.nets) d.card.now.nodes } };
 }

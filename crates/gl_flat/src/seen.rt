@@ -1,5 +1,5 @@
 ghost use Rattle.std.specs.Prelude.{◌≡◌, ◌∷◌, [], Ok, map, flat_map, OnOk, IfOk, IfErr};
-ghost use Rattle.gl_text.specs.Flattening.{bearers, device, net, net_name};
+ghost use Rattle.gl_text.specs.Flattening.{bearers, device, net, net_name, top_net};
 ghost use Rattle.gl_flat.specs.Numbered.{number_in};
 ghost use Rattle.gl_flat.specs.Refusals.{IsRefusal, fault_of};
 ghost use Rattle.gl_flat.specs.SeenNames.{net_names, nothing_seen, seen_all, takes_top_name as is_taken_from_top};
@@ -121,8 +121,19 @@ impl<'a> Seen<'a> {
         keys_of(alloc, self.nets)
     }
 
+    /// Adds nets of the top by their names, or refuses the first whose flat name another net has.
+    fn add_top_nets(&mut self, alloc: Global, names: &'a [Name]) -> Result<(), FlatFault>
+        ensures ok { OnOk result (seen_all self.old (map net (map top_net names.now)) ≡ Ok self.new) }
+        ensures refused { IfErr result (λ fault. IsRefusal (fault_of fault) (seen_all self.old (map net (map top_net names.now)))) }
+    {
+        for name in names {
+            self.add_net(alloc, &Net::of_top(alloc, name))?;
+        }
+        Ok(())
+    }
+
     /// Adds nets, or refuses the first whose flat name another net has.
-    pub fn add_nets(&mut self, alloc: Global, nets: &[Net<'a>]) -> Result<(), FlatFault>
+    fn add_nets(&mut self, alloc: Global, nets: &[Net<'a>]) -> Result<(), FlatFault>
         ensures ok { OnOk result (seen_all self.old (map net nets.now) ≡ Ok self.new) }
         ensures refused { IfErr result (λ fault. IsRefusal (fault_of fault) (seen_all self.old (map net nets.now))) }
     {
@@ -132,13 +143,24 @@ impl<'a> Seen<'a> {
         Ok(())
     }
 
+    /// Adds a device's nets, or refuses the first whose flat name another net has.
+    fn add_places(&mut self, alloc: Global, added: &Reached<'a>) -> Result<(), FlatFault>
+        ensures ok { OnOk result (seen_all self.old (map net added.now.nets) ≡ Ok self.new) }
+        ensures refused { IfErr result (λ fault. IsRefusal (fault_of fault) (seen_all self.old (map net added.now.nets))) }
+    {
+        match &added.nets {
+            None => self.add_top_nets(alloc, added.card.nodes()),
+            Some(nets) => self.add_nets(alloc, nets),
+        }
+    }
+
     /// Adds a device's name and its nets, or refuses the first that clashes.
     fn add_bearers(&mut self, alloc: Global, added: &Reached<'a>) -> Result<(), FlatFault>
         ensures ok { OnOk result (seen_all self.old (bearers added.now) ≡ Ok self.new) }
         ensures refused { IfErr result (λ fault. IsRefusal (fault_of fault) (seen_all self.old (bearers added.now))) }
     {
         self.add_device(alloc, &device_text(alloc, added)?)?;
-        self.add_nets(alloc, &added.nets)
+        self.add_places(alloc, added)
     }
 
     /// Adds the names of devices and their nets, or refuses the first that clashes.

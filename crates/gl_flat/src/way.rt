@@ -45,10 +45,7 @@ fn own_net<'a>(
     ensures net { IfOk result (λ net. net ≡ (if flat.is_rail rails.now.keys name.now then flat.top_net name.now else record { path = path_of way.now; name = name.now })) }
 {
     if is_rail(rails, name) {
-        return Ok(Net {
-            path: Vec::new(alloc),
-            name,
-        });
+        return Ok(Net::of_top(alloc, name));
     }
     Ok(Net {
         path: path_names(alloc, way)?,
@@ -98,9 +95,16 @@ pub fn device_at<'a>(
 ) -> Result<Reached<'a>, AllocError>
     ensures device { IfOk result (λ d. d ≡ record { path = (place_of rails.now.keys way.now).path; card = card.now; nets = map (flat.net_of rails.now.keys (place_of rails.now.keys way.now)) card.now.nodes }) }
 {
+    if way.is_empty() {
+        return Ok(Reached {
+            path: Vec::new(alloc),
+            card,
+            nets: None,
+        });
+    }
     Ok(Reached {
         path: path_names(alloc, way)?,
         card,
-        nets: nets_at(alloc, rails, way, card.nodes())?,
+        nets: Some(nets_at(alloc, rails, way, card.nodes())?),
     })
 }

@@ -13,10 +13,9 @@ pub returns : goal.returns
 returns c =
     let t = c.args.total in
     let d = c.args.device.now in
-    let nets : c.deref.result.now ≡ d.nets = search rules in
     let model : option_copied c.model.result ≡ d.card.model = search rules in
     let tail : c.as_bytes.result.now ≡ d.card.tail = search rules in
-    let a = next t _ _ _ _ _ c.add_own-named.ensures.total c.add_nodes-placed.ensures.total (ap (λ ns. spaced_all (map net_name ns)) nets) in
+    let a = next t _ _ _ _ _ c.add_own-named.ensures.total c.add_places-placed.ensures.total refl in
     let b = next t _ _ _ _ _ a c.add_option-modelled.ensures.total (ap (λ m. spaced_all (option_to_list m)) model) in
     let e = next t _ _ _ _ _ b c.add_tail-tailed.ensures.total (ap spaced tail) in
     let f = next t _ _ (10 ∷ []) _ _ e c.add.ensures.total refl in

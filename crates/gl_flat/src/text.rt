@@ -1,0 +1,120 @@
+//! The flat text of devices that are reached, without a flat deck between.
+ghost use Rattle.std.specs.Prelude.{◌≡◌, ◌∷◌, [], ◌++◌, OnOk, map, flat_map, option_to_list};
+ghost use Rattle.std.specs.Option.{option_copied};
+ghost use Rattle.gl_text.specs.Flattening as flat;
+ghost use Rattle.gl_text.specs.Flattening.{around, flat_text};
+ghost use Rattle.gl_card.specs.Lines.{spaced_all};
+ghost use Rattle.gl_flat.specs.Lengths.{flat_line};
+ghost use Rattle.gl_flat.specs.Steps.{flat_with};
+
+use crate::naming::{put_device_name, put_net};
+use crate::net::Net;
+use crate::print::{
+    put_all_passed, put_ends, put_globals, put_head, put_models, put_tail, put_text, put_word,
+};
+use crate::reached::Reached;
+use crate::{Deck, Head, Memory, Name};
+
+/// Appends a space and a net's flat name.
+fn put_node(out: &mut Vec<u8>, net: &Net<'_>) -> Result<(), Memory>
+    ensures ok { OnOk result (out.new.items ≡ out.old.items ++ spaced_all (flat.net_name net.now ∷ [])) }
+{
+    out.push(b' ')?;
+    put_net(out, net)?;
+    Ok(())
+}
+
+/// Appends a space and the flat name of each of the nets.
+fn put_nodes(out: &mut Vec<u8>, nets: &[Net<'_>]) -> Result<(), Memory>
+    ensures ok { OnOk result (out.new.items ≡ out.old.items ++ spaced_all (map flat.net_name nets.now)) }
+{
+    for net in nets {
+        put_node(out, net)?;
+    }
+    Ok(())
+}
+
+/// Appends a space and each of the names of nets of the top.
+fn put_top_nodes(out: &mut Vec<u8>, names: &[Name]) -> Result<(), Memory>
+    ensures ok { OnOk result (out.new.items ≡ out.old.items ++ spaced_all (map flat.net_name (map flat.top_net names.now))) }
+{
+    for name in names {
+        put_word(out, name.as_bytes())?;
+    }
+    Ok(())
+}
+
+/// Appends a space and the flat name of each of a device's nets.
+fn put_places(out: &mut Vec<u8>, device: &Reached<'_>) -> Result<(), Memory>
+    ensures ok { OnOk result (out.new.items ≡ out.old.items ++ spaced_all (map flat.net_name device.now.nets)) }
+{
+    match &device.nets {
+        None => put_top_nodes(out, device.card.nodes()),
+        Some(nets) => put_nodes(out, nets),
+    }
+}
+
+/// Appends a space and a model's name, if there is one.
+fn put_model(out: &mut Vec<u8>, model: Option<&Name>) -> Result<(), Memory>
+    ensures ok { OnOk result (out.new.items ≡ out.old.items ++ spaced_all (option_to_list (option_copied model.entry))) }
+{
+    match model {
+        Some(name) => put_word(out, name.as_bytes()),
+        None => Ok(()),
+    }
+}
+
+/// Appends a device's line.
+fn put_device(out: &mut Vec<u8>, device: &Reached<'_>) -> Result<(), Memory>
+    ensures ok { OnOk result (out.new.items ≡ out.old.items ++ flat_line device.now) }
+{
+    put_device_name(out, device)?;
+    put_places(out, device)?;
+    put_model(out, device.card.model())?;
+    put_tail(out, device.card.tail().as_bytes())?;
+    out.push(b'\n')?;
+    Ok(())
+}
+
+/// Appends the devices' lines.
+fn put_devices(out: &mut Vec<u8>, devices: &[Reached<'_>]) -> Result<(), Memory>
+    ensures ok { OnOk result (out.new.items ≡ out.old.items ++ flat_map flat_line devices.now) }
+{
+    for device in devices {
+        put_device(out, device)?;
+    }
+    Ok(())
+}
+
+/// Appends the devices' lines, between those of the top subcircuit if there is one.
+fn put_around(out: &mut Vec<u8>, head: Option<&Head>, devices: &[Reached<'_>]) -> Result<(), Memory>
+    ensures ok { OnOk result (out.new.items ≡ out.old.items ++ around (option_copied head.entry) (flat_map flat_line devices.now)) }
+{
+    match head {
+        None => put_devices(out, devices),
+        Some(head) => {
+            put_head(out, head)?;
+            put_devices(out, devices)?;
+            put_ends(out, head.name())
+        }
+    }
+}
+
+/// Appends the text of the flat deck of devices.
+pub fn put_flat(
+    out: &mut Vec<u8>,
+    deck: &Deck,
+    rails: &[Name],
+    head: Option<&Head>,
+    devices: &[Reached<'_>],
+) -> Result<(), Memory>
+    ensures ok { OnOk result (out.new.items ≡ out.old.items ++ flat_text (flat_with deck.now rails.now (option_copied head.entry) devices.now)) }
+{
+    put_text(out, deck.title())?;
+    put_globals(out, rails)?;
+    put_models(out, deck.models())?;
+    put_around(out, head, devices)?;
+    put_all_passed(out, deck.passed())?;
+    put_text(out, b".end")?;
+    Ok(())
+}
