@@ -10,8 +10,7 @@ use Rattle.gl_text.specs.Flattening.{DEPTH, TEXT, FlatDevice, Flat, flat_devices
 use Rattle.gl_flat.specs.declared.fault.FlatFault.{FlatFault}
 use Rattle.gl_flat.specs.declared.fault.FlatFault.TheVariants as faults
 use Rattle.gl_flat.specs.Lengths.{after}
-use Rattle.gl_flat.specs.Numbered.{Numbered, numbered}
-use Rattle.gl_flat.specs.Refusals.{Gives, IsFound, IsRefusal, fault_of}
+use Rattle.gl_flat.specs.Refusals.{GivesOf, IsFound, IsRefusal, fault_of}
 use Rattle.gl_flat.specs.Steps.{excess_in, text_fault, checked, judged, stepwise}
 
 -- ---- the text's length
@@ -61,18 +60,18 @@ pub none_refuses : (f : Flat) (a b c : Option Fault) → a ≡ None → b ≡ No
 none_refuses f a b c e g h = ap (λ v. checked f v b c) e ∙ ap (λ v. checked f None v c) g ∙ ap (λ v. checked f None None v) h
 
 -- an answer that passes a refusal on
-pub gives_refusal : (r : Result Numbered FlatFault) (f : FlatFault) (w : Result Flat Fault) → IsErrAnd r (λ e. e ≡ f) → IsRefusal (fault_of f) w → Gives r w
-gives_refusal (Ok v) f w e h = absurd e
-gives_refusal (Err g) f w e h = subst (λ x. IsRefusal (fault_of x) w) (sym e) h
+pub gives_refusal : {V : Type 0} (M : V → Flat → Type 0) (r : Result V FlatFault) (f : FlatFault) (w : Result Flat Fault) → IsErrAnd r (λ e. e ≡ f) → IsRefusal (fault_of f) w → GivesOf M r w
+gives_refusal M (Ok v) f w e h = absurd e
+gives_refusal M (Err g) f w e h = subst (λ x. IsRefusal (fault_of x) w) (sym e) h
 
 -- a flat deck that only a clash can refuse
-pub clash_decides : (r : Result Numbered FlatFault) (f : Flat) (a b c : Option Fault) → a ≡ None → b ≡ None → OnOk r (c ≡ None) → IfOk r (λ v. v ≡ numbered f) → IfErr r (λ e. IsFound (fault_of e) c) → Gives r (checked f a b c)
-clash_decides (Ok v) f a b c e g h w k = (f, none_refuses f a b c e g h, w)
-clash_decides (Err x) f a b c e g h w k = third_refuses (fault_of x) f a b c e g k
+pub clash_decides : {V : Type 0} (M : V → Flat → Type 0) (r : Result V FlatFault) (f : Flat) (a b c : Option Fault) → a ≡ None → b ≡ None → OnOk r (c ≡ None) → IfOk r (λ v. M v f) → IfErr r (λ e. IsFound (fault_of e) c) → GivesOf M r (checked f a b c)
+clash_decides M (Ok v) f a b c e g h w k = (f, none_refuses f a b c e g h, w)
+clash_decides M (Err x) f a b c e g h w k = third_refuses (fault_of x) f a b c e g k
 
 -- the same answer is given for an equal wish
-pub gives_same : (r : Result Numbered FlatFault) (v w : Result Flat Fault) → v ≡ w → Gives r v → Gives r w
-gives_same r v w e h = subst (λ x. Gives r x) e h
+pub gives_same : {V : Type 0} (M : V → Flat → Type 0) (r : Result V FlatFault) (v w : Result Flat Fault) → v ≡ w → GivesOf M r v → GivesOf M r w
+gives_same M r v w e h = subst (λ x. GivesOf M r x) e h
 
 -- ---- all steps
 
@@ -115,6 +114,6 @@ pub same_devices : (n : ℕ) (k rails : List (List ℕ)) (s t : List Sub) (cards
 same_devices n k rails s t cards e f = ap (λ x. flat_devices x s n top_place cards) e ∙ ap (λ x. flat_devices rails x n top_place cards) f
 
 -- want of memory may come in place of any answer
-pub no_memory : (r : Result Numbered FlatFault) (w : Result Flat Fault) → IsErrAnd r (λ e. e ≡ faults.Memory) → Gives r w
-no_memory (Ok v) w e = absurd e
-no_memory (Err g) w e = subst (λ x. IsRefusal (fault_of x) w) (sym e) tt
+pub no_memory : {V : Type 0} (M : V → Flat → Type 0) (r : Result V FlatFault) (w : Result Flat Fault) → IsErrAnd r (λ e. e ≡ faults.Memory) → GivesOf M r w
+no_memory M (Ok v) w e = absurd e
+no_memory M (Err g) w e = subst (λ x. IsRefusal (fault_of x) w) (sym e) tt

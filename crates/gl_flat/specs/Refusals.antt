@@ -43,6 +43,6 @@ GivesOf IsMade (Err fault) wanted = IsRefusal (fault_of fault) wanted
 abbrev pub Gives : Result Numbered FlatFault → Result Flat Fault → Type 0
 Gives = GivesOf (λ v w. v ≡ numbered w)
 
--- the text of a flat deck
-abbrev pub GivesText : Result (List ℕ) FlatFault → Result Flat Fault → Type 0
-GivesText = GivesOf (λ text w. text ≡ flat_text w)
+-- the text is that of a flat deck
+abbrev pub IsTextOf : List ℕ → Flat → Type 0
+IsTextOf text w = text ≡ flat_text w

@@ -1,5 +1,5 @@
 -- Flattening in its steps: what is chosen, what exceeds, the flat deck, and what refuses it.
-use Rattle.std.specs.Prelude.{ℕ, ◌+◌, not, nat_lt, List, [], ◌∷◌, ◌++◌, length, map, flat_map, Option, Result, codes}
+use Rattle.std.specs.Prelude.{◌≡◌, ℕ, ◌+◌, not, nat_lt, List, [], ◌∷◌, ◌++◌, length, map, flat_map, Option, None, Result, codes}
 use Rattle.gl_text.specs.LogicalLines.{Fault, too_deep, too_many_cards, too_many_devices, long_text}
 use Rattle.gl_text.specs.Cards.{Head, first_some, when, or_else}
 use Rattle.gl_text.specs.Decks.{◌>>=◌, Body, Sub, Deck}
@@ -35,6 +35,11 @@ checked flat a b c = or_else a flat >>= λ f. or_else b f >>= λ g. or_else c g
 -- the flat deck of devices, or its first refusal
 abbrev pub judged : Deck → List (List ℕ) → Option Head → List FlatDevice → Result Flat Fault
 judged deck rails head devices = checked (flat_with deck rails head devices) (text_fault (flat_with deck rails head devices)) (long_in (flat_map bearers devices)) (clash_in rails (top_ports head) devices)
+
+-- neither its text nor a flat name is too long
+pub record AreShort (flat : Flat) : Type 0 where
+  pub text : text_fault flat ≡ None
+  pub names : long_in (flat_map bearers flat.devices) ≡ None
 
 -- the devices of cards of a deck
 abbrev pub all_devices : Deck → List (List ℕ) → List Body → List FlatDevice

@@ -9,9 +9,10 @@ ghost use Rattle.gl_flat.specs.TopNames.{top_names};
 ghost use Rattle.gl_flat.specs.Ways.{IsScene, PortsDiffer};
 
 use crate::clash::refuse_clash;
-use crate::flattening::{expanded, name_set, port_sets};
+use crate::flattening::expanded;
 use crate::reached::Reached;
 use crate::scene::Scene;
+use crate::tables::Tables;
 use crate::{FlatFault, Name, Sub};
 use indexmap::IndexMap;
 use std::alloc::{AllocError, Global};
@@ -59,14 +60,7 @@ pub fn first_clash(
     requires rails { AllDiffer rails.now }
     ensures clash { IfOk result (λ name. option_map name_clash name ≡ clash_in rails.now cell.now.head.ports (flat_devices rails.now (values subs.now) MOST_CALLS top_place cell.now.cards)) }
 {
-    let ports = port_sets(alloc, subs.values().as_slice())?;
-    let known = name_set(alloc, rails)?;
-    let own = name_set(alloc, cell.head().ports())?;
-    let scene = Scene {
-        subs,
-        ports: &ports,
-        rails: &known,
-        own: &own,
-    };
+    let tables = Tables::of(alloc, subs, rails, cell.head().ports())?;
+    let scene = tables.scene(subs);
     clash_of_cell(alloc, &scene, cell)
 }

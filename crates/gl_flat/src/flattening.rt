@@ -10,13 +10,14 @@ ghost use Rattle.gl_deck.specs.Bodies.{bodies_value, names_of};
 ghost use Rattle.gl_size.specs.Excesses.{fault_of_excess};
 ghost use Rattle.gl_flat.specs.LongNames.{AreCountable, long_in};
 ghost use Rattle.gl_flat.specs.Numbered.{nets_of, numbered, numbered_device};
-ghost use Rattle.gl_flat.specs.Refusals.{Gives, IsFound, fault_of};
-ghost use Rattle.gl_flat.specs.Steps.{all_devices, devices_in, excess_in, flat_with, judged as judged_by, text_fault};
+ghost use Rattle.gl_flat.specs.Refusals.{Gives, GivesOf, IsFound, IsRefusal, IsTextOf, fault_of};
+ghost use Rattle.gl_flat.specs.Steps.{AreShort, all_devices, devices_in, excess_in, flat_with, judged as judged_by, text_fault};
 ghost use Rattle.gl_flat.specs.TopNames.{top_names};
 ghost use Rattle.gl_flat.specs.Ways.{IsScene};
 
 use crate::chosen::{Chosen, choose};
-use crate::copy::{model_copies, name_copies, name_copy, text_copies, top_copy};
+use crate::clash::refuse_clash;
+use crate::copy::{model_copies, name_copies, text_copies, top_copy};
 use crate::expand::expand;
 use crate::length::text_length;
 use crate::long::first_long;
@@ -24,9 +25,11 @@ use crate::number::number_devices;
 use crate::reached::Reached;
 use crate::scene::Scene;
 use crate::seen::Seen;
+use crate::tables::Tables;
+use crate::text::put_flat;
 use crate::{Body, Deck, Flat, FlatDevice, FlatFault, Head, Name, Sub, What};
 use gl_size::{Excess, first_excess};
-use indexmap::{IndexMap, IndexSet};
+use indexmap::IndexMap;
 use std::alloc::{AllocError, Global};
 
 /// The most X cards in a chain.
@@ -34,28 +37,6 @@ const DEPTH: usize = 32;
 
 /// The most bytes of a flat deck's text.
 const TEXT: usize = 67_108_864;
-
-/// Each of the names once.
-pub fn name_set(alloc: Global, names: &[Name]) -> Result<IndexSet<Name>, AllocError>
-    ensures names { IfOk result (λ set. set.keys ≡ once names.now) }
-{
-    let mut set = IndexSet::new(alloc);
-    for name in names {
-        set.insert(name_copy(alloc, name)?)?;
-    }
-    Ok(set)
-}
-
-/// The ports of subcircuits, by their places.
-pub fn port_sets(alloc: Global, subs: &[Sub]) -> Result<Vec<IndexSet<Name>>, AllocError>
-    ensures ports { IfOk result (λ sets. map (λ s. s.keys) sets.items ≡ map (λ s. once s.head.ports) subs.now) }
-{
-    let mut sets = Vec::with_capacity(alloc, subs.len())?;
-    for sub in subs {
-        sets.push(name_set(alloc, sub.head().ports())?)?;
-    }
-    Ok(sets)
-}
 
 /// The refusal of a deck that expands to too much.
 fn excess_fault(excess: Excess) -> FlatFault
@@ -167,6 +148,39 @@ fn flat_of<'a>(
     })
 }
 
+/// The text of the flat deck of devices, or the first clash of names.
+fn text_of<'a>(
+    alloc: Global,
+    scene: &Scene<'a>,
+    deck: &Deck,
+    rails: &[Name],
+    head: Option<&Head>,
+    devices: &[Reached<'a>],
+) -> Result<Vec<u8>, FlatFault>
+    ensures fits { OnOk result (first_clash (map (λ n. net (top_net n)) (top_names scene.now)) (flat_map bearers devices.now) ≡ None) }
+    ensures text { IfOk result (λ text. text.items ≡ flat.flat_text (flat_with deck.now rails.now (option_copied head.entry) devices.now)) }
+    ensures refused { IfErr result (λ fault. IsFound (fault_of fault) (first_clash (map (λ n. net (top_net n)) (top_names scene.now)) (flat_map bearers devices.now))) }
+{
+    refuse_clash(alloc, scene, devices)?;
+    let mut text = Vec::new(alloc);
+    put_flat(&mut text, deck, rails, head, devices)?;
+    Ok(text)
+}
+
+/// Refuses devices whose flat text or a flat name is too long.
+fn refuse_lengths(
+    deck: &Deck,
+    rails: &[Name],
+    head: Option<&Head>,
+    devices: &[Reached<'_>],
+) -> Result<(), FlatFault>
+    ensures short { OnOk result (AreShort (flat_with deck.now rails.now (option_copied head.entry) devices.now)) }
+    ensures refused { IfErr result (λ fault. IsRefusal (fault_of fault) (judged_by deck.now rails.now (option_copied head.entry) devices.now)) }
+{
+    refuse_text(deck, rails, head, devices)?;
+    refuse_long(devices)
+}
+
 /// The flat deck of devices, or its first refusal.
 fn judged<'a>(
     alloc: Global,
@@ -180,9 +194,25 @@ fn judged<'a>(
     requires own { scene.now.own.now.keys ≡ once (top_ports (option_copied head)) }
     ensures gives { Gives result (judged_by deck.now rails.now (option_copied head.entry) devices.now) }
 {
-    refuse_text(deck, rails, head, devices)?;
-    refuse_long(devices)?;
+    refuse_lengths(deck, rails, head, devices)?;
     flat_of(alloc, scene, deck, rails, head, devices)
+}
+
+/// The flat text of devices, or the first refusal.
+fn judged_text<'a>(
+    alloc: Global,
+    scene: &Scene<'a>,
+    deck: &Deck,
+    rails: &[Name],
+    head: Option<&Head>,
+    devices: &[Reached<'a>],
+) -> Result<Vec<u8>, FlatFault>
+    requires rails { scene.now.rails.now.keys ≡ once rails.now }
+    requires own { scene.now.own.now.keys ≡ once (top_ports (option_copied head)) }
+    ensures gives { GivesOf (λ text. IsTextOf text.items) result (judged_by deck.now rails.now (option_copied head.entry) devices.now) }
+{
+    refuse_lengths(deck, rails, head, devices)?;
+    text_of(alloc, scene, deck, rails, head, devices)
 }
 
 /// The devices of cards.
@@ -216,6 +246,23 @@ fn flat_of_cards<'a>(
     judged(alloc, scene, deck, rails, chosen.head, &devices)
 }
 
+/// The flat text of cards, or the first refusal.
+fn text_of_cards<'a>(
+    alloc: Global,
+    scene: &Scene<'a>,
+    deck: &Deck,
+    rails: &[Name],
+    chosen: Chosen<'a>,
+) -> Result<Vec<u8>, FlatFault>
+    requires scene { IsScene scene.now }
+    requires rails { scene.now.rails.now.keys ≡ once rails.now }
+    requires own { scene.now.own.now.keys ≡ once (top_ports (option_copied chosen.head)) }
+    ensures gives { GivesOf (λ text. IsTextOf text.items) result (judged_by deck.now rails.now (option_copied chosen.entry.head) (devices_in scene.now chosen.entry.cards.now)) }
+{
+    let devices = expanded(alloc, scene, chosen.cards)?;
+    judged_text(alloc, scene, deck, rails, chosen.head, &devices)
+}
+
 /// The flat deck of what is chosen, or its first refusal.
 fn flat_of_chosen(
     alloc: Global,
@@ -227,16 +274,25 @@ fn flat_of_chosen(
     requires rails { AreRails rails.now }
     ensures gives { Gives result (judged_by deck.now rails.now (option_copied chosen.entry.head) (all_devices deck.now rails.now (bodies_value chosen.entry.cards.now))) }
 {
-    let ports = port_sets(alloc, deck.subs().values().as_slice())?;
-    let known = name_set(alloc, rails)?;
-    let own = name_set(alloc, ports_of(chosen.head))?;
-    let scene = Scene {
-        subs: deck.subs(),
-        ports: &ports,
-        rails: &known,
-        own: &own,
-    };
+    let tables = Tables::of(alloc, deck.subs(), rails, ports_of(chosen.head))?;
+    let scene = tables.scene(deck.subs());
     flat_of_cards(alloc, &scene, deck, rails, chosen)
+}
+
+/// The flat text of what is chosen, or the first refusal.
+fn text_of_chosen(
+    alloc: Global,
+    deck: &Deck,
+    rails: &[Name],
+    chosen: Chosen<'_>,
+) -> Result<Vec<u8>, FlatFault>
+    requires sound { IsReadDeck deck.now }
+    requires rails { AreRails rails.now }
+    ensures gives { GivesOf (λ text. IsTextOf text.items) result (judged_by deck.now rails.now (option_copied chosen.entry.head) (all_devices deck.now rails.now (bodies_value chosen.entry.cards.now))) }
+{
+    let tables = Tables::of(alloc, deck.subs(), rails, ports_of(chosen.head))?;
+    let scene = tables.scene(deck.subs());
+    text_of_cards(alloc, &scene, deck, rails, chosen)
 }
 
 /// The flat deck: every device with its flat name and its nets, or the first refusal. The rails are the names that are global
@@ -254,4 +310,21 @@ pub fn flatten(
     let chosen = choose(alloc, deck, top)?;
     refuse_excess(alloc, deck.subs(), chosen.cards)?;
     flat_of_chosen(alloc, deck, rails, chosen)
+}
+
+/// The text of the flat deck, as `Flat::print` of what `flatten` gives would append it, or the first refusal. No flat deck is
+/// made on the way: nothing is copied, and no net is numbered.
+pub fn flattened_text(
+    alloc: Global,
+    deck: &Deck,
+    rails: &[Name],
+    top: Option<&Name>,
+) -> Result<Vec<u8>, FlatFault>
+    requires sound { IsReadDeck deck.now }
+    requires rails { AreRails rails.now }
+    ensures gives { GivesOf (λ text. IsTextOf text.items) result (flat.flatten deck.now rails.now (option_copied top.entry)) }
+{
+    let chosen = choose(alloc, deck, top)?;
+    refuse_excess(alloc, deck.subs(), chosen.cards)?;
+    text_of_chosen(alloc, deck, rails, chosen)
 }

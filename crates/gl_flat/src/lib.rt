@@ -22,6 +22,7 @@ mod same;
 mod scene;
 mod seen;
 mod step;
+mod tables;
 #[cfg(test)]
 mod tests;
 mod text;
@@ -30,7 +31,7 @@ mod way;
 pub use cell::first_clash;
 pub use fault::{FlatFault, What};
 pub use flat::{Flat, FlatDevice};
-pub use flattening::flatten;
+pub use flattening::{flatten, flattened_text};
 pub use gl_deck::{
     Body, CallCard, Deck, DevCard, Head, Letter, Memory, ModelCard, Name, Sub, Tail,
 };

@@ -10,7 +10,7 @@ use Rattle.gl_flat.proofs.flattening.flatten.Goals as goal
 pub returns-in_err-chosen : goal.returns-in_err-chosen
 returns-in_err-chosen c =
     let f = c.in_err-chosen.field-0.0 in
-    record { gives = gives_refusal c.from_residual.result f _ c.from_residual.ensures.1 (choice_refuses (fault_of f) c.args.deck.now c.args.rails.now (option_copied c.args.top) c.in_err-chosen.ensures.refused) }
+    record { gives = gives_refusal _ c.from_residual.result f _ c.from_residual.ensures.1 (choice_refuses (fault_of f) c.args.deck.now c.args.rails.now (option_copied c.args.top) c.in_err-chosen.ensures.refused) }
 
 pub refuse_excess-requires : goal.refuse_excess-requires
 refuse_excess-requires c = record { keyed = c.subs.ensures.keyed }
@@ -21,7 +21,7 @@ returns-in_err-refuse_excess c =
     let cards = bodies_value c.in_ok-chosen.chosen.cards.now in
     let found = subst (λ (ss : List Sub). IsFound (fault_of f) (excess_in ss cards)) c.subs.ensures.subs c.in_err-refuse_excess.ensures.refused in
     record {
-      gives = gives_refusal c.from_residual-in_err-refuse_excess.result f _ c.from_residual-in_err-refuse_excess.ensures.1
+      gives = gives_refusal _ c.from_residual-in_err-refuse_excess.result f _ c.from_residual-in_err-refuse_excess.ensures.1
           (excess_refuses (fault_of f) c.args.deck.now c.args.rails.now (option_copied c.args.top) (option_copied c.in_ok-chosen.chosen.head) cards c.in_ok-chosen.ensures.ok found);
     }
 
@@ -38,4 +38,4 @@ returns c =
     let head = option_copied c.in_ok-chosen.chosen.head in
     let cards = bodies_value c.in_ok-chosen.chosen.cards.now in
     let fits : excess_in deck.subs cards ≡ None = ap (λ ss. excess_in ss cards) (sym c.subs.ensures.subs) ∙ c.in_ok-refuse_excess.ensures.ok in
-    record { gives = gives_same c.flat_of_chosen.result _ _ (judged_is deck rails (option_copied c.args.top) head cards (all_devices deck rails cards) c.in_ok-chosen.ensures.ok fits refl) c.flat_of_chosen.ensures.gives }
+    record { gives = gives_same _ c.flat_of_chosen.result _ _ (judged_is deck rails (option_copied c.args.top) head cards (all_devices deck rails cards) c.in_ok-chosen.ensures.ok fits refl) c.flat_of_chosen.ensures.gives }

@@ -3,7 +3,7 @@ use Rattle.std.proofs.lemmas.List.{take_all}
 use Rattle.indexmap.specs.IndexSet.{insert_all}
 use Rattle.gl_text.specs.LogicalLines.{same_text}
 use Rattle.gl_deck.proofs.GlobalLaws.{keys_once}
-use Rattle.gl_flat.proofs.flattening.name_set.Goals as goal
+use Rattle.gl_flat.proofs.tables.name_set.Goals as goal
 
 pub returns : goal.returns
 returns c =
