@@ -2,13 +2,16 @@ pub mod BoundLaws
 pub mod ChosenLaws
 pub mod ClashLaws
 pub mod CountLaws
+pub mod DotLaws
 pub mod ExpandLaws
 pub mod GivenFlats
+pub mod KeptLaws
 pub mod LengthLaws
 pub mod LongLaws
 pub mod NumberLaws
 pub mod NumberedTexts
 pub mod OneNet
+pub mod PlainNames
 pub mod PrintingLaws
 pub mod SceneLaws
 pub mod SeenLaws

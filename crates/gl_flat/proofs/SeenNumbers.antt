@@ -16,7 +16,7 @@ use Rattle.gl_text.specs.Flattening.{Net, FlatDevice, Bearer, device, net, net_n
 use Rattle.gl_printed.proofs.Each.{each_left, each_right}
 use Rattle.gl_deck.proofs.GlobalLaws.{all_keys, keys_once}
 use Rattle.gl_flat.specs.Numbered.{NumberedDevice, nets_of, number_in, numbered_device}
-use Rattle.gl_flat.specs.SeenNames.{Seen, nothing_seen, net_names, same_net, takes_top_name, with_net, seen_with, seen_all}
+use Rattle.gl_flat.specs.SeenNames.{Seen, nothing_seen, has_dot, net_names, same_net, takes_top_name, with_device, with_net, seen_with, seen_all}
 use Rattle.gl_flat.proofs.ClashLaws.{none_here, inserted_by, key_by}
 use Rattle.gl_flat.proofs.NumberLaws.{one_more}
 use Rattle.gl_flat.proofs.SeenLaws.{seen_both, flat_more}
@@ -79,9 +79,13 @@ device_by : (b : Bool) (s u : Seen) (n : List ℕ) → cond b (Err (name_clash n
 device_by true s u n e = absurd cc
 device_by false s u n e = ap net_names (sym (fits_same (record s { devices = insert_key same_text s.devices n }) u e))
 
+plain_or_by : (b : Bool) (s u : Seen) (n : List ℕ) → cond b (with_device s n) (Ok s) ≡ Ok u → net_names u ≡ net_names s
+plain_or_by true s u n e = device_by (is_in n s.devices) s u n e
+plain_or_by false s u n e = ap net_names (sym (fits_same s u e))
+
 -- a device adds none
 pub device_named : (s u : Seen) (n : List ℕ) → seen_all s (device n ∷ []) ≡ Ok u → net_names u ≡ net_names s
-device_named s u n e = device_by (is_in n s.devices) s u n (one_ok (seen_with s (device n)) u e)
+device_named s u n e = plain_or_by (has_dot n) s u n (one_ok (seen_with s (device n)) u e)
 
 nets_by : (r : Result Seen Fault) (s u : Seen) (m : Net) (ms : List Net) → seen_with s (net m) ≡ r → (r >>= λ t. seen_all t (map net ms)) ≡ Ok u → ((t : Seen) → seen_all t (map net ms) ≡ Ok u → net_names u ≡ insert_all same_text (net_names t) (map net_name ms))
     → net_names u ≡ insert_all same_text (net_names s) (map net_name (m ∷ ms))

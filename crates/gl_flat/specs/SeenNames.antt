@@ -1,13 +1,34 @@
 -- Flat names that were seen behind the nets of the top: each name of a device, and each flat name of a net with the net that has it.
-use Rattle.std.specs.Prelude.{ℕ, ◌&&◌, Bool, true, false, List, [], ◌∷◌, map, Option, Some, None, Result, Ok, Err, if◌then◌else◌}
+use Rattle.std.specs.Prelude.{ℕ, ◌==◌, ◌&&◌, Bool, true, false, List, [], ◌∷◌, map, flat_map, Option, Some, None, Result, Ok, Err, if◌then◌else◌}
+use Rattle.std.specs.List.{list_any}
 use Rattle.std.specs.Map.{lookup}
 use Rattle.indexmap.specs.IndexMap.{insert_entry}
 use Rattle.indexmap.specs.IndexSet.{insert_key}
 use Rattle.gl_text.specs.LogicalLines.{Fault, name_clash, same_text}
 use Rattle.gl_text.specs.Decks.{◌>>=◌, is_in}
-use Rattle.gl_text.specs.Flattening.{Net, Bearer, device, net, net_name, same_path}
+use Rattle.gl_text.specs.Flattening.{Net, FlatDevice, Bearer, device, net, net_name, bearers, same_path}
+use Rattle.gl_printed.specs.ReadDecks.{AllDiffer}
 
--- what was seen: the names of the nets of the top, those of devices, and the flat names of the devices' nets, each with the first net that has it
+-- a name holds a dot, as all flat names behind X cards do
+abbrev pub has_dot : List ℕ → Bool
+has_dot name = list_any (λ b. b == 46) name
+
+-- the names without a dot of devices
+abbrev pub plain_names : List Bearer → List (List ℕ)
+plain_names [] = []
+plain_names (device name ∷ bs) = if has_dot name then plain_names bs else name ∷ plain_names bs
+plain_names (net m ∷ bs) = plain_names bs
+
+-- no two of them are the same
+abbrev pub PlainDiffer : List FlatDevice → Type 0
+PlainDiffer devices = AllDiffer (plain_names (flat_map bearers devices))
+
+-- a device, or a net whose flat name holds a dot; no other net has the flat name of another
+abbrev pub may_clash : Bearer → Bool
+may_clash (device name) = true
+may_clash (net m) = has_dot (net_name m)
+
+-- what was seen: the names of the nets of the top, those of devices with a dot, and the flat names of the devices' nets, each with the first net that has it
 pub record Seen : Type 0 where
   pub tops : List (List ℕ)
   pub devices : List (List ℕ)
@@ -39,9 +60,13 @@ abbrev pub with_net : Seen → Net → Option Net → Result Seen Fault
 with_net s m None = if takes_top_name s m then Err (name_clash (net_name m)) else Ok (record s { nets = insert_entry same_text s.nets (net_name m) m })
 with_net s m (Some known) = if same_net m known then Ok s else Err (name_clash (net_name m))
 
--- a device's or a net's name more, or the clash with one that was seen
+-- a device more
+abbrev pub with_device : Seen → List ℕ → Result Seen Fault
+with_device s name = if is_in name s.devices then Err (name_clash name) else Ok (record s { devices = insert_key same_text s.devices name })
+
+-- a device's or a net's name more, or the clash with one that was seen; a device's name without a dot is not looked up, since none behind X cards has it
 abbrev pub seen_with : Seen → Bearer → Result Seen Fault
-seen_with s (device name) = if is_in name s.devices then Err (name_clash name) else Ok (record s { devices = insert_key same_text s.devices name })
+seen_with s (device name) = if has_dot name then with_device s name else Ok s
 seen_with s (net m) = with_net s m (lookup (same_text (net_name m)) s.nets)
 
 -- names more, or the first clash

@@ -2,8 +2,9 @@ ghost use Rattle.std.specs.Prelude.{◌≡◌, None, map, flat_map, option_map, 
 ghost use Rattle.indexmap.specs.IndexMap.{keys, values};
 ghost use Rattle.gl_text.specs.LogicalLines.{name_clash};
 ghost use Rattle.gl_text.specs.Flattening.{DEPTH as MOST_CALLS, bearers, first_clash as first_clash_of, flat_devices, net, top_net, top_place};
-ghost use Rattle.gl_printed.specs.ReadDecks.{AllDiffer};
+ghost use Rattle.gl_printed.specs.ReadDecks.{AllDiffer, body_name};
 ghost use Rattle.gl_deck.specs.Bodies.{names_of};
+ghost use Rattle.gl_flat.specs.SeenNames.{PlainDiffer};
 ghost use Rattle.gl_flat.specs.Steps.{clash_in};
 ghost use Rattle.gl_flat.specs.TopNames.{top_names};
 ghost use Rattle.gl_flat.specs.Ways.{IsScene, PortsDiffer};
@@ -23,6 +24,7 @@ fn clash_among<'a>(
     scene: &Scene<'a>,
     devices: &[Reached<'a>],
 ) -> Result<Option<Name>, AllocError>
+    requires plain { PlainDiffer devices.now }
     ensures clash { IfOk result (λ name. option_map name_clash name ≡ first_clash_of (map (λ n. net (top_net n)) (top_names scene.now)) (flat_map bearers devices.now)) }
 {
     match refuse_clash(alloc, scene, devices) {
@@ -39,6 +41,7 @@ fn clash_of_cell<'a>(
     cell: &'a Sub,
 ) -> Result<Option<Name>, AllocError>
     requires scene { IsScene scene.now }
+    requires names { AllDiffer (map body_name cell.now.cards) }
     ensures clash { IfOk result (λ name. option_map name_clash name ≡ first_clash_of (map (λ n. net (top_net n)) (top_names scene.now)) (flat_map bearers (flat_devices scene.now.rails.now.keys (values scene.now.subs.now) MOST_CALLS top_place cell.now.cards))) }
 {
     let devices = expanded(alloc, scene, cell.cards())?;
@@ -58,6 +61,7 @@ pub fn first_clash(
     requires keyed { keys subs.now ≡ names_of (values subs.now) }
     requires ports { PortsDiffer (values subs.now) }
     requires rails { AllDiffer rails.now }
+    requires names { AllDiffer (map body_name cell.now.cards) }
     ensures clash { IfOk result (λ name. option_map name_clash name ≡ clash_in rails.now cell.now.head.ports (flat_devices rails.now (values subs.now) MOST_CALLS top_place cell.now.cards)) }
 {
     let tables = Tables::of(alloc, subs, rails, cell.head().ports())?;

@@ -5,12 +5,13 @@ ghost use Rattle.gl_text.specs.Decks.{once};
 ghost use Rattle.gl_text.specs.Flattening as flat;
 ghost use Rattle.gl_text.specs.Flattening.{bearers, first_clash, net, top_net, top_ports};
 ghost use Rattle.gl_printed.specs.FlatDecks.{AreRails};
-ghost use Rattle.gl_printed.specs.ReadDecks.{IsReadDeck};
+ghost use Rattle.gl_printed.specs.ReadDecks.{AllDiffer, IsReadDeck, body_name};
 ghost use Rattle.gl_deck.specs.Bodies.{bodies_value, names_of};
 ghost use Rattle.gl_size.specs.Excesses.{fault_of_excess};
 ghost use Rattle.gl_flat.specs.LongNames.{AreCountable, long_in};
 ghost use Rattle.gl_flat.specs.Numbered.{nets_of, numbered, numbered_device};
 ghost use Rattle.gl_flat.specs.Refusals.{Gives, GivesOf, IsFound, IsRefusal, IsTextOf, fault_of};
+ghost use Rattle.gl_flat.specs.SeenNames.{PlainDiffer};
 ghost use Rattle.gl_flat.specs.Steps.{AreShort, all_devices, devices_in, excess_in, flat_with, judged as judged_by, text_fault};
 ghost use Rattle.gl_flat.specs.TopNames.{top_names};
 ghost use Rattle.gl_flat.specs.Ways.{IsScene};
@@ -112,6 +113,7 @@ fn numbered_nets<'a>(
     devices: &[Reached<'a>],
 ) -> Result<(Vec<Name>, Vec<FlatDevice>), FlatFault>
     requires few { length (nets_of devices.now) < 2 ^ 32 }
+    requires plain { PlainDiffer devices.now }
     ensures fits { OnOk result (first_clash (map (λ n. net (top_net n)) (top_names scene.now)) (flat_map bearers devices.now) ≡ None) }
     ensures nets { IfOk result (λ parts. parts.0.items ≡ nets_of devices.now) }
     ensures devices { IfOk result (λ parts. parts.1.items ≡ map (numbered_device (nets_of devices.now)) devices.now) }
@@ -132,6 +134,7 @@ fn flat_of<'a>(
     devices: &[Reached<'a>],
 ) -> Result<Flat, FlatFault>
     requires few { length (nets_of devices.now) < 2 ^ 32 }
+    requires plain { PlainDiffer devices.now }
     ensures fits { OnOk result (first_clash (map (λ n. net (top_net n)) (top_names scene.now)) (flat_map bearers devices.now) ≡ None) }
     ensures flat { IfOk result (λ f. f ≡ numbered (flat_with deck.now rails.now (option_copied head.entry) devices.now)) }
     ensures refused { IfErr result (λ fault. IsFound (fault_of fault) (first_clash (map (λ n. net (top_net n)) (top_names scene.now)) (flat_map bearers devices.now))) }
@@ -157,6 +160,7 @@ fn text_of<'a>(
     head: Option<&Head>,
     devices: &[Reached<'a>],
 ) -> Result<Vec<u8>, FlatFault>
+    requires plain { PlainDiffer devices.now }
     ensures fits { OnOk result (first_clash (map (λ n. net (top_net n)) (top_names scene.now)) (flat_map bearers devices.now) ≡ None) }
     ensures text { IfOk result (λ text. text.items ≡ flat.flat_text (flat_with deck.now rails.now (option_copied head.entry) devices.now)) }
     ensures refused { IfErr result (λ fault. IsFound (fault_of fault) (first_clash (map (λ n. net (top_net n)) (top_names scene.now)) (flat_map bearers devices.now))) }
@@ -192,6 +196,7 @@ fn judged<'a>(
 ) -> Result<Flat, FlatFault>
     requires rails { scene.now.rails.now.keys ≡ once rails.now }
     requires own { scene.now.own.now.keys ≡ once (top_ports (option_copied head)) }
+    requires plain { PlainDiffer devices.now }
     ensures gives { Gives result (judged_by deck.now rails.now (option_copied head.entry) devices.now) }
 {
     refuse_lengths(deck, rails, head, devices)?;
@@ -209,6 +214,7 @@ fn judged_text<'a>(
 ) -> Result<Vec<u8>, FlatFault>
     requires rails { scene.now.rails.now.keys ≡ once rails.now }
     requires own { scene.now.own.now.keys ≡ once (top_ports (option_copied head)) }
+    requires plain { PlainDiffer devices.now }
     ensures gives { GivesOf (λ text. IsTextOf text.items) result (judged_by deck.now rails.now (option_copied head.entry) devices.now) }
 {
     refuse_lengths(deck, rails, head, devices)?;
@@ -240,6 +246,7 @@ fn flat_of_cards<'a>(
     requires scene { IsScene scene.now }
     requires rails { scene.now.rails.now.keys ≡ once rails.now }
     requires own { scene.now.own.now.keys ≡ once (top_ports (option_copied chosen.head)) }
+    requires names { AllDiffer (map body_name (bodies_value chosen.cards.now)) }
     ensures gives { Gives result (judged_by deck.now rails.now (option_copied chosen.entry.head) (devices_in scene.now chosen.entry.cards.now)) }
 {
     let devices = expanded(alloc, scene, chosen.cards)?;
@@ -257,6 +264,7 @@ fn text_of_cards<'a>(
     requires scene { IsScene scene.now }
     requires rails { scene.now.rails.now.keys ≡ once rails.now }
     requires own { scene.now.own.now.keys ≡ once (top_ports (option_copied chosen.head)) }
+    requires names { AllDiffer (map body_name (bodies_value chosen.cards.now)) }
     ensures gives { GivesOf (λ text. IsTextOf text.items) result (judged_by deck.now rails.now (option_copied chosen.entry.head) (devices_in scene.now chosen.entry.cards.now)) }
 {
     let devices = expanded(alloc, scene, chosen.cards)?;
@@ -272,6 +280,7 @@ fn flat_of_chosen(
 ) -> Result<Flat, FlatFault>
     requires sound { IsReadDeck deck.now }
     requires rails { AreRails rails.now }
+    requires names { AllDiffer (map body_name (bodies_value chosen.cards.now)) }
     ensures gives { Gives result (judged_by deck.now rails.now (option_copied chosen.entry.head) (all_devices deck.now rails.now (bodies_value chosen.entry.cards.now))) }
 {
     let tables = Tables::of(alloc, deck.subs(), rails, ports_of(chosen.head))?;
@@ -288,6 +297,7 @@ fn text_of_chosen(
 ) -> Result<Vec<u8>, FlatFault>
     requires sound { IsReadDeck deck.now }
     requires rails { AreRails rails.now }
+    requires names { AllDiffer (map body_name (bodies_value chosen.cards.now)) }
     ensures gives { GivesOf (λ text. IsTextOf text.items) result (judged_by deck.now rails.now (option_copied chosen.entry.head) (all_devices deck.now rails.now (bodies_value chosen.entry.cards.now))) }
 {
     let tables = Tables::of(alloc, deck.subs(), rails, ports_of(chosen.head))?;

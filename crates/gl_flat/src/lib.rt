@@ -5,6 +5,7 @@ mod cell;
 mod chosen;
 mod clash;
 mod copy;
+mod dot;
 mod expand;
 mod fault;
 mod flat;

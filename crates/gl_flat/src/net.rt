@@ -1,7 +1,9 @@
 ghost use Rattle.std.specs.Prelude.{◌≡◌};
 ghost use Rattle.gl_text.specs.Flattening as flat;
+ghost use Rattle.gl_flat.specs.SeenNames as seen;
 
 use crate::Name;
+use crate::dot::has_dot;
 use std::alloc::Global;
 use std::marker::Model;
 
@@ -32,5 +34,19 @@ impl<'a> Net<'a> {
             path: Vec::new(alloc),
             name,
         }
+    }
+
+    /// It stands behind X cards.
+    fn is_below(&self) -> bool
+        ensures below { result ≡ seen.is_below self.now.path }
+    {
+        !self.path.is_empty()
+    }
+
+    /// Its flat name holds a dot, as that of every net behind X cards does.
+    pub fn has_dot(&self) -> bool
+        ensures dot { result ≡ seen.has_dot (flat.net_name self.now) }
+    {
+        self.is_below() || has_dot(self.name.as_bytes())
     }
 }

@@ -1,3 +1,8 @@
+ghost use Rattle.std.specs.Prelude.{◌≡◌};
+ghost use Rattle.gl_text.specs.Flattening as flat;
+ghost use Rattle.gl_flat.specs.SeenNames as seen;
+
+use crate::dot::has_dot;
 use crate::net::Net;
 use crate::{DevCard, Name};
 use std::marker::Model;
@@ -21,4 +26,13 @@ impl<'a> Model for Reached<'a> {
     ghost Value = { DeviceValue };
 
     ghost view = { λ d. record { path = map (λ x. x.now) d.path.items; card = d.card.now; nets = nets_by (option_map (λ v. v.items) d.nets) d.card.now.nodes } };
+}
+
+impl<'a> Reached<'a> {
+    /// Its flat name holds a dot, as that of every device behind X cards does.
+    pub fn has_dot(&self) -> bool
+        ensures dot { result ≡ seen.has_dot (flat.device_name self.now) }
+    {
+        !self.path.is_empty() || has_dot(self.card.name().as_bytes())
+    }
 }

@@ -1,11 +1,12 @@
-ghost use Rattle.std.specs.Prelude.{◌≡◌, ◌∷◌, [], Ok, map, flat_map, OnOk, IfOk, IfErr};
-ghost use Rattle.gl_text.specs.Flattening.{bearers, device, net, net_name, top_net};
+ghost use Rattle.std.specs.Prelude.{◌≡◌, ◌∷◌, [], Ok, map, filter, flat_map, OnOk, IfOk, IfErr};
+ghost use Rattle.gl_text.specs.Flattening.{bearers, device, device_name, net, net_name, top_net};
 ghost use Rattle.gl_flat.specs.Numbered.{number_in};
 ghost use Rattle.gl_flat.specs.Refusals.{IsRefusal, fault_of};
-ghost use Rattle.gl_flat.specs.SeenNames.{net_names, nothing_seen, seen_all, takes_top_name as is_taken_from_top};
+ghost use Rattle.gl_flat.specs.SeenNames.{may_clash, net_names, nothing_seen, seen_all, takes_top_name as is_taken_from_top, with_device};
 ghost use Rattle.gl_flat.specs.TopNames.{top_names};
 
 use crate::copy::name_copy;
+use crate::dot::has_dot;
 use crate::naming::{device_text, flat_name};
 use crate::net::Net;
 use crate::reached::Reached;
@@ -66,10 +67,10 @@ impl<'a> Seen<'a> {
         }
     }
 
-    /// Adds a device's name, or refuses one that was seen.
-    pub fn add_device(&mut self, alloc: Global, name: &Name) -> Result<(), FlatFault>
-        ensures ok { OnOk result (seen_all self.old (device name.now ∷ []) ≡ Ok self.new) }
-        ensures refused { IfErr result (λ fault. IsRefusal (fault_of fault) (seen_all self.old (device name.now ∷ []))) }
+    /// Adds a device's name that holds a dot, or refuses one that was seen.
+    fn add_dotted(&mut self, alloc: Global, name: &Name) -> Result<(), FlatFault>
+        ensures ok { OnOk result (with_device self.old name.now ≡ Ok self.new) }
+        ensures refused { IfErr result (λ fault. IsRefusal (fault_of fault) (with_device self.old name.now)) }
     {
         if self.devices.insert(name_copy(alloc, name)?)? {
             return Ok(());
@@ -77,6 +78,17 @@ impl<'a> Seen<'a> {
         Err(FlatFault::NameClash {
             name: name_copy(alloc, name)?,
         })
+    }
+
+    /// Adds a device's name, or refuses one that was seen. A name without a dot is neither looked up nor kept.
+    pub fn add_device(&mut self, alloc: Global, name: &Name) -> Result<(), FlatFault>
+        ensures ok { OnOk result (seen_all self.old (device name.now ∷ []) ≡ Ok self.new) }
+        ensures refused { IfErr result (λ fault. IsRefusal (fault_of fault) (seen_all self.old (device name.now ∷ []))) }
+    {
+        if has_dot(name.as_bytes()) {
+            return self.add_dotted(alloc, name);
+        }
+        Ok(())
     }
 
     /// The net is none of the top, and its flat name is that of one.
@@ -121,32 +133,43 @@ impl<'a> Seen<'a> {
         keys_of(alloc, self.nets)
     }
 
-    /// Adds nets of the top by their names, or refuses the first whose flat name another net has.
-    fn add_top_nets(&mut self, alloc: Global, names: &'a [Name]) -> Result<(), FlatFault>
-        ensures ok { OnOk result (seen_all self.old (map net (map top_net names.now)) ≡ Ok self.new) }
-        ensures refused { IfErr result (λ fault. IsRefusal (fault_of fault) (seen_all self.old (map net (map top_net names.now)))) }
+    /// Adds a net whose flat name holds a dot, or refuses it; any other net is passed over.
+    fn add_dotted_net(&mut self, alloc: Global, added: &Net<'a>) -> Result<(), FlatFault>
+        ensures ok { OnOk result (seen_all self.old (filter may_clash (net added.now ∷ [])) ≡ Ok self.new) }
+        ensures refused { IfErr result (λ fault. IsRefusal (fault_of fault) (seen_all self.old (filter may_clash (net added.now ∷ [])))) }
     {
-        for name in names {
-            self.add_net(alloc, &Net::of_top(alloc, name))?;
-        }
-        Ok(())
-    }
-
-    /// Adds nets, or refuses the first whose flat name another net has.
-    fn add_nets(&mut self, alloc: Global, nets: &[Net<'a>]) -> Result<(), FlatFault>
-        ensures ok { OnOk result (seen_all self.old (map net nets.now) ≡ Ok self.new) }
-        ensures refused { IfErr result (λ fault. IsRefusal (fault_of fault) (seen_all self.old (map net nets.now))) }
-    {
-        for added in nets {
+        if added.has_dot() {
             self.add_net(alloc, added)?;
         }
         Ok(())
     }
 
-    /// Adds a device's nets, or refuses the first whose flat name another net has.
+    /// Adds the nets of the top whose names hold a dot, or refuses the first whose flat name another net has.
+    fn add_top_nets(&mut self, alloc: Global, names: &'a [Name]) -> Result<(), FlatFault>
+        ensures ok { OnOk result (seen_all self.old (filter may_clash (map net (map top_net names.now))) ≡ Ok self.new) }
+        ensures refused { IfErr result (λ fault. IsRefusal (fault_of fault) (seen_all self.old (filter may_clash (map net (map top_net names.now))))) }
+    {
+        for name in names {
+            self.add_dotted_net(alloc, &Net::of_top(alloc, name))?;
+        }
+        Ok(())
+    }
+
+    /// Adds the nets whose flat names hold a dot, or refuses the first whose flat name another net has.
+    fn add_nets(&mut self, alloc: Global, nets: &[Net<'a>]) -> Result<(), FlatFault>
+        ensures ok { OnOk result (seen_all self.old (filter may_clash (map net nets.now)) ≡ Ok self.new) }
+        ensures refused { IfErr result (λ fault. IsRefusal (fault_of fault) (seen_all self.old (filter may_clash (map net nets.now)))) }
+    {
+        for added in nets {
+            self.add_dotted_net(alloc, added)?;
+        }
+        Ok(())
+    }
+
+    /// Adds a device's nets whose flat names hold a dot, or refuses the first whose flat name another net has.
     fn add_places(&mut self, alloc: Global, added: &Reached<'a>) -> Result<(), FlatFault>
-        ensures ok { OnOk result (seen_all self.old (map net added.now.nets) ≡ Ok self.new) }
-        ensures refused { IfErr result (λ fault. IsRefusal (fault_of fault) (seen_all self.old (map net added.now.nets))) }
+        ensures ok { OnOk result (seen_all self.old (filter may_clash (map net added.now.nets)) ≡ Ok self.new) }
+        ensures refused { IfErr result (λ fault. IsRefusal (fault_of fault) (seen_all self.old (filter may_clash (map net added.now.nets)))) }
     {
         match &added.nets {
             None => self.add_top_nets(alloc, added.card.nodes()),
@@ -154,19 +177,30 @@ impl<'a> Seen<'a> {
         }
     }
 
-    /// Adds a device's name and its nets, or refuses the first that clashes.
-    fn add_bearers(&mut self, alloc: Global, added: &Reached<'a>) -> Result<(), FlatFault>
-        ensures ok { OnOk result (seen_all self.old (bearers added.now) ≡ Ok self.new) }
-        ensures refused { IfErr result (λ fault. IsRefusal (fault_of fault) (seen_all self.old (bearers added.now))) }
+    /// Adds a device's flat name, or refuses one that was seen. A name without a dot is not even written.
+    fn add_own(&mut self, alloc: Global, added: &Reached<'a>) -> Result<(), FlatFault>
+        ensures ok { OnOk result (seen_all self.old (device (device_name added.now) ∷ []) ≡ Ok self.new) }
+        ensures refused { IfErr result (λ fault. IsRefusal (fault_of fault) (seen_all self.old (device (device_name added.now) ∷ []))) }
     {
-        self.add_device(alloc, &device_text(alloc, added)?)?;
+        if added.has_dot() {
+            return self.add_dotted(alloc, &device_text(alloc, added)?);
+        }
+        Ok(())
+    }
+
+    /// Adds what may clash of a device: its name and its nets. Or refuses the first that does.
+    fn add_bearers(&mut self, alloc: Global, added: &Reached<'a>) -> Result<(), FlatFault>
+        ensures ok { OnOk result (seen_all self.old (filter may_clash (bearers added.now)) ≡ Ok self.new) }
+        ensures refused { IfErr result (λ fault. IsRefusal (fault_of fault) (seen_all self.old (filter may_clash (bearers added.now)))) }
+    {
+        self.add_own(alloc, added)?;
         self.add_places(alloc, added)
     }
 
-    /// Adds the names of devices and their nets, or refuses the first that clashes.
+    /// Adds what may clash of devices, or refuses the first that does.
     pub fn add_all(&mut self, alloc: Global, devices: &[Reached<'a>]) -> Result<(), FlatFault>
-        ensures ok { OnOk result (seen_all self.old (flat_map bearers devices.now) ≡ Ok self.new) }
-        ensures refused { IfErr result (λ fault. IsRefusal (fault_of fault) (seen_all self.old (flat_map bearers devices.now))) }
+        ensures ok { OnOk result (seen_all self.old (filter may_clash (flat_map bearers devices.now)) ≡ Ok self.new) }
+        ensures refused { IfErr result (λ fault. IsRefusal (fault_of fault) (seen_all self.old (filter may_clash (flat_map bearers devices.now)))) }
     {
         for added in devices {
             self.add_bearers(alloc, added)?;

@@ -18,7 +18,7 @@ use crate::words::Flat;
 use crate::writing::write;
 use gl_deck::Deck;
 use gl_desk::{Desk, Slot};
-use gl_flat::{FlatFault, flatten, numbered_texts_are_flat_texts};
+use gl_flat::{FlatFault, flattened_text};
 use std::alloc::Global;
 
 /// How a run ends whose deck is refused as it is flattened.
@@ -37,11 +37,7 @@ fn text_of(alloc: Global, deck: &Deck) -> Result<Vec<u8>, FlatFault>
     ensures text { IfOk result (λ text. text_of_deck deck.now ≡ Ok text.items) }
     ensures refused { IfErr result (λ fault. IsRefusal (fault_of fault) (text_of_deck deck.now)) }
 {
-    let flat = flatten(alloc, deck, deck.globals(), None)?;
-    numbered_texts_are_flat_texts();
-    let mut text = Vec::new(alloc);
-    flat.print(&mut text)?;
-    Ok(text)
+    flattened_text(alloc, deck, deck.globals(), None)
 }
 
 /// Reads the deck, and makes its flat text.

@@ -8,6 +8,7 @@ use Rattle.gl_text.specs.Flattening.{DEPTH, FlatDevice, flat_devices, top_place,
 use Rattle.gl_deck.specs.Bodies.{names_of}
 use Rattle.gl_flat.specs.Steps.{clash_in}
 use Rattle.gl_flat.proofs.ClashLaws.{clash_same}
+use Rattle.gl_flat.proofs.PlainNames.{plain_differ}
 use Rattle.gl_flat.proofs.SoundLaws.{once_same, ports_once}
 use Rattle.gl_flat.proofs.cell.first_clash.Goals as goal
 
@@ -20,6 +21,7 @@ clash_of_cell-requires c =
         keyed = subst (λ m. keys m ≡ names_of (values m)) (sym there) c.requires.keyed;
         ports = c.scene-scene.ensures.ports ∙ c.in_ok-tables.ensures.ports ∙ ports_once subs c.requires.ports ∙ ap (map (λ (s : Sub). s.head.ports)) (sym (ap values there));
       };
+      names = c.requires.names;
     }
 
 pub returns : goal.returns
@@ -34,7 +36,7 @@ returns c =
     let devices : List (List ℕ) → List FlatDevice = λ (k : List (List ℕ)). flat_devices k subs DEPTH top_place cell.cards in
     let given = flat_devices scene.rails.now.keys (values scene.subs.now) DEPTH top_place cell.cards in
     let same : first_clash (map (λ n. net (top_net n)) (codes "0" ∷ scene.rails.now.keys ++ scene.own.now.keys)) (flat_map bearers given) ≡ clash_in rails cell.head.ports (devices rails) =
-    clash_same scene.rails.now.keys scene.own.now.keys rails cell.head.ports (flat_map bearers given) rails_once ports
+    clash_same scene.rails.now.keys scene.own.now.keys rails cell.head.ports (flat_map bearers given) (plain_differ scene.rails.now.keys (values scene.subs.now) DEPTH cell.cards c.requires.names) rails_once ports
     ∙ ap (λ m. clash_in rails cell.head.ports (flat_devices scene.rails.now.keys (values m) DEPTH top_place cell.cards)) c.scene-scene.ensures.subs
     ∙ ap (λ (k : List (List ℕ)). clash_in rails cell.head.ports (devices k)) known in
     record {

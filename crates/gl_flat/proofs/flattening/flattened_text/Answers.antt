@@ -4,6 +4,7 @@ use Rattle.gl_text.specs.Decks.{Sub}
 use Rattle.gl_deck.specs.Bodies.{bodies_value}
 use Rattle.gl_flat.specs.Refusals.{IsFound, fault_of}
 use Rattle.gl_flat.specs.Steps.{all_devices, excess_in}
+use Rattle.gl_flat.proofs.ChosenLaws.{chosen_differ}
 use Rattle.gl_flat.proofs.StepLaws.{gives_refusal, gives_same, choice_refuses, excess_refuses, judged_is}
 use Rattle.gl_flat.proofs.flattening.flattened_text.Goals as goal
 
@@ -39,3 +40,7 @@ returns c =
     let cards = bodies_value c.in_ok-chosen.chosen.cards.now in
     let fits : excess_in deck.subs cards ≡ None = ap (λ ss. excess_in ss cards) (sym c.subs.ensures.subs) ∙ c.in_ok-refuse_excess.ensures.ok in
     record { gives = gives_same _ c.text_of_chosen.result _ _ (judged_is deck rails (option_copied c.args.top) head cards (all_devices deck rails cards) c.in_ok-chosen.ensures.ok fits refl) c.text_of_chosen.ensures.gives }
+
+pub text_of_chosen-requires-clause-names : goal.text_of_chosen-requires-clause-names
+text_of_chosen-requires-clause-names c =
+    chosen_differ c.args.deck.now (option_copied c.args.top) (option_copied c.in_ok-chosen.chosen.head) (bodies_value c.in_ok-chosen.chosen.cards.now) c.requires.sound c.in_ok-chosen.ensures.ok

@@ -14,7 +14,10 @@ use Rattle.gl_flat.proofs.flattening.judged.Goals as goal
 pub flat_of-requires : goal.flat_of-requires
 flat_of-requires c =
     let flat = flat_with c.args.deck.now c.args.rails.now (option_copied c.args.head) c.args.devices.now in
-    record { few = nets_fit flat (short_text flat c.in_ok-refuse_lengths.ensures.short.text) }
+    record {
+      few = nets_fit flat (short_text flat c.in_ok-refuse_lengths.ensures.short.text);
+      plain = c.requires.plain;
+    }
 
 pub returns : goal.returns
 returns c =
@@ -23,7 +26,7 @@ returns c =
     let ports = top_ports (option_copied c.args.head) in
     let flat = flat_with c.args.deck.now rails (option_copied c.args.head) ds in
     let bs = flat_map bearers ds in
-    let same = clash_same c.args.scene.now.rails.now.keys c.args.scene.now.own.now.keys rails ports bs c.requires.rails c.requires.own in
+    let same = clash_same c.args.scene.now.rails.now.keys c.args.scene.now.own.now.keys rails ports bs c.requires.plain c.requires.rails c.requires.own in
     let found = first_clash (map (λ n. net (top_net n)) (top_names c.args.scene.now)) bs in
     let short = c.in_ok-refuse_lengths.ensures.short in
     record {

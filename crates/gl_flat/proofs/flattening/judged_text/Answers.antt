@@ -16,7 +16,7 @@ returns c =
     let ports = top_ports (option_copied c.args.head) in
     let flat = flat_with c.args.deck.now rails (option_copied c.args.head) ds in
     let bs = flat_map bearers ds in
-    let same = clash_same c.args.scene.now.rails.now.keys c.args.scene.now.own.now.keys rails ports bs c.requires.rails c.requires.own in
+    let same = clash_same c.args.scene.now.rails.now.keys c.args.scene.now.own.now.keys rails ports bs c.requires.plain c.requires.rails c.requires.own in
     let found = first_clash (map (λ n. net (top_net n)) (top_names c.args.scene.now)) bs in
     let short = c.in_ok-refuse_lengths.ensures.short in
     record {

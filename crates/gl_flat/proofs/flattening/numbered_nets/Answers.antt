@@ -23,12 +23,12 @@ returns-in_err-numbered-clause-refused c =
     let o = fault_of c.in_err-numbered.field-0.0 in
     let bs = flat_map bearers c.args.devices.now in
     found_on c.from_residual.result c.in_err-numbered.field-0.0 _ c.from_residual.ensures.1
-    (found_clash o (top_names c.args.scene.now) bs (subst (λ (s : Seen). IsRefusal o (seen_all s bs)) c.behind-seen.ensures.nothing c.in_err-numbered.ensures.refused))
+    (found_clash o (top_names c.args.scene.now) bs c.requires.plain (subst (λ (s : Seen). IsRefusal o (seen_all s bs)) c.behind-seen.ensures.nothing c.in_err-numbered.ensures.refused))
 
 pub returns-clause-fits : goal.returns-clause-fits
 returns-clause-fits c =
     let bs = flat_map bearers c.args.devices.now in
-    none_clash (top_names c.args.scene.now) bs c.number_devices.new.seen (ap (λ s. seen_all s bs) (sym c.behind-seen.ensures.nothing) ∙ c.in_ok-numbered.ensures.ok)
+    none_clash (top_names c.args.scene.now) bs c.number_devices.new.seen c.requires.plain (ap (λ s. seen_all s bs) (sym c.behind-seen.ensures.nothing) ∙ c.in_ok-numbered.ensures.ok)
 
 pub returns-clause-nets : goal.returns-clause-nets
 returns-clause-nets c =

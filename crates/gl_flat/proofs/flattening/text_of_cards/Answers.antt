@@ -1,0 +1,12 @@
+use Rattle.std.proofs.Common.{◌∙◌, sym, subst}
+use Rattle.indexmap.specs.IndexMap.{values}
+use Rattle.gl_text.specs.Flattening.{DEPTH}
+use Rattle.gl_deck.specs.Bodies.{bodies_value}
+use Rattle.gl_flat.specs.SeenNames.{PlainDiffer}
+use Rattle.gl_flat.proofs.PlainNames.{plain_differ}
+use Rattle.gl_flat.proofs.flattening.text_of_cards.Goals as goal
+
+pub judged_text-requires-clause-plain : goal.judged_text-requires-clause-plain
+judged_text-requires-clause-plain c =
+    let s = c.args.scene.now in
+    subst PlainDiffer (sym (c.deref.ensures.value ∙ c.in_ok-devices.ensures.devices)) (plain_differ s.rails.now.keys (values s.subs.now) DEPTH (bodies_value c.args.chosen.cards.now) c.requires.names)
