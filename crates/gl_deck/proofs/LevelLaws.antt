@@ -1,14 +1,14 @@
 -- Numbers by which no call goes up.
 use Rattle.std.proofs.Common.{◌≡◌, ◌<◌, ◌≤◌, ◌-◌, ℕ, List, [], ◌∷◌, length, take, drop, get_or, Bool, true, false, Option, Some, None, IfSome, ap, sym, subst, arith, inl, inr}
 use Rattle.std.specs.Bool.{OnTrue}
-use Rattle.std.specs.List.{AllByRecursion, IsAmong}
+use Rattle.std.specs.List.{IsAmong}
 use Rattle.std.proofs.lemmas.Bool.{cases_Bool}
 use Rattle.std.proofs.lemmas.List.{take_all}
 use Rattle.gl_text.specs.LogicalLines.{same_text}
 use Rattle.gl_text.specs.Decks.{Sub, Body, callees, reaches, steps}
 use Rattle.gl_deck.specs.Levels.{AreLevels, AtMost, NoneUp, level_in}
 use Rattle.gl_deck.proofs.CallLaws.{exact}
-use Rattle.gl_deck.proofs.Members.{In, among_in, from_any}
+use Rattle.gl_deck.proofs.Members.{In, all_in, among_in, from_any}
 use Rattle.gl_deck.proofs.ReachLaws.{all_found}
 
 one_not_up : (b : Bool) (level : List ℕ → ℕ) (s : Sub) → OnTrue b (AtMost level (level s.head.name) s.cards) → OnTrue b (NoneUp level (s ∷ []))
@@ -18,11 +18,6 @@ one_not_up false level s h = h
 pub not_up_by : (b : Bool) (level : List ℕ → ℕ) (s : Sub) (m : ℕ) (cards : List Body) → m ≡ level s.head.name → cards ≡ s.cards → OnTrue b (AtMost level m cards) → OnTrue b (NoneUp level (s ∷ []))
 not_up_by b level s m cards e f h =
     one_not_up b level s (subst (λ (k : ℕ). OnTrue b (AtMost level k s.cards)) e (subst (λ (cs : List Body). OnTrue b (AtMost level m cs)) f h))
-
-all_in : {A : Type 0} (P : A → Type 0) (x : A) (xs : List A) → In x xs → AllByRecursion P xs → P x
-all_in P x [] i h = absurd i
-all_in P x (y ∷ ys) (inl e) h = subst P (sym e) h.0
-all_in P x (y ∷ ys) (inr i) h = all_in P x ys i h.1
 
 -- a subcircuit of at most a number
 abbrev Low : (List ℕ → ℕ) → List Sub → ℕ → Sub → Type 0

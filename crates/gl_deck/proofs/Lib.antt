@@ -17,6 +17,7 @@ pub mod NodeLaws
 pub mod PlaceLaws
 pub mod PlacedLists
 pub mod PrintingLaws
+pub mod RankLaws
 pub mod ReachLaws
 pub mod ReadLaws
 pub mod SpreadLaws
