@@ -126,10 +126,10 @@ from_unless None v l e = (refl, cc)
 from_unless (Some cause) v l e = absurd cc
 
 -- what was read is of an accepted deck
-abbrev IsLibraryOf : Library → Deck → Type 0
+abbrev pub IsLibraryOf : Library → Deck → Type 0
 IsLibraryOf l deck = (library_cause deck ≡ None) × (library_of deck ≡ l)
 
-from_checked : (r : Result Deck Fault) (l : Library) → checked r ≡ Ok l → (deck : Deck) × (r ≡ Ok deck) × IsLibraryOf l deck
+pub from_checked : (r : Result Deck Fault) (l : Library) → checked r ≡ Ok l → (deck : Deck) × (r ≡ Ok deck) × IsLibraryOf l deck
 from_checked (Ok deck) l e = (deck, refl, from_unless (library_cause deck) (library_of deck) l e)
 from_checked (Err fault) l e = absurd cc
 

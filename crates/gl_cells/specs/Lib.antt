@@ -4,4 +4,5 @@ pub mod KnownLibraries
 pub mod Limited
 pub mod Outlines
 pub mod Samples
+pub mod Settled
 pub mod Skips

@@ -1,18 +1,28 @@
 //! Laws over the definitions, and rows of them worked out by hand: each function does nothing.
-ghost use Rattle.std.specs.Prelude.{◌≡◌, ◌<◌, ℕ, List, length, is_some, ◌++◌, ◌∷◌, [], None, Some, Err, IsOkAnd, codes, map, replicate};
+ghost use Rattle.std.specs.Prelude.{◌≡◌, ℕ, Bool, List, length, ◌++◌, ◌∷◌, [], None, Some, Ok, Err, IsOkAnd, codes, map, replicate};
+ghost use Rattle.std.specs.List.{AllByRecursion};
 ghost use Rattle.gl_text.specs.LogicalLines.{loose_ends};
-ghost use Rattle.gl_text.specs.Decks.{Sub, callees, find_sub};
-ghost use Rattle.gl_text.specs.Levels.{Down};
-ghost use Rattle.gl_base.specs.Libraries.{above, greatest, level_of, skip_by, skip_of, Cell, Library, read_library, refused, top_card, cell_limit, cell_clash, cells, devices, ports, level, flat, cells_cause, limit_cause, library_cause, first_cause, empty, loose, uses};
+ghost use Rattle.gl_text.specs.Decks.{Deck, read_deck};
+ghost use Rattle.gl_printed.specs.ReadDecks.{IsReadDeck};
+ghost use Rattle.gl_deck.specs.Levels.{HasRank};
+ghost use Rattle.gl_base.specs.Libraries.{Cell, Library, read_library, refused, top_card, cell_limit, cell_clash, cells, devices, ports, level, flat, cells_cause, limit_cause, library_cause, first_cause, empty, loose, uses};
+ghost use Rattle.gl_cells.specs.Settled.{HasSettledLevel, HasSettledSkip};
 ghost use Rattle.gl_cells.specs.Samples.{resistor, caller, cell_named};
 
-/// Where calls go down by a rank below the number of cells, a cell's level is one more than the greatest level that it calls,
-/// and it is skipped by itself or since it calls a skipped cell.
+/// In a deck that was read calls go down by a rank that is below the number of subcircuits.
+pub fn read_decks_have_ranks()
+    ensures of_bytes { (has_title : Bool) (bytes : List ℕ) (deck : Deck)
+        → read_deck has_title bytes ≡ Ok deck → HasRank deck.subs (length deck.subs) }
+    ensures as_read { (deck : Deck) → IsReadDeck deck → HasRank deck.subs (length deck.subs) }
+{}
+
+/// In a library that was read the level of a cell is one more than the greatest level that it calls, and a cell is skipped
+/// by itself or since it calls a skipped cell.
 pub fn levels_and_skips_are_settled()
-    ensures level { (rank : List ℕ → ℕ) (subs : List Sub) (s : Sub) → Down rank subs → Down rank (s ∷ []) → rank s.head.name < length subs
-        → level_of subs s ≡ greatest (map (λ name. above (level_of subs) (find_sub subs name)) (callees s.cards)) }
-    ensures skip { (rank : List ℕ → ℕ) (subs : List Sub) (s : Sub) → Down rank subs → Down rank (s ∷ []) → rank s.head.name < length subs
-        → skip_of subs s ≡ skip_by (λ t. is_some (skip_of subs t)) subs s }
+    ensures level { (bytes : List ℕ) (l : Library) → read_library bytes ≡ Ok l
+        → AllByRecursion (HasSettledLevel l.deck.subs) l.deck.subs }
+    ensures skip { (bytes : List ℕ) (l : Library) → read_library bytes ≡ Ok l
+        → AllByRecursion (HasSettledSkip l.deck.subs) l.deck.subs }
 {}
 
 /// Cells that are searched, and cells that are skipped.

@@ -21,6 +21,9 @@ mod tests;
 pub use fault::{LibFault, Limit};
 pub use gl_deck::{Body, Deck, DeckFault, Name, Sub};
 pub use known::read_libraries_are_known;
-pub use laws::{level_rows, levels_and_skips_are_settled, limit_rows, refusal_rows, skip_rows};
+pub use laws::{
+    level_rows, levels_and_skips_are_settled, limit_rows, read_decks_have_ranks, refusal_rows,
+    skip_rows,
+};
 pub use library::{LibCell, Library};
 pub use skip::Skip;

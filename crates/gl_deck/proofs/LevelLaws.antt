@@ -1,28 +1,13 @@
 -- Numbers by which no call goes up.
-use Rattle.std.proofs.Common.{◌≡◌, ◌<◌, ◌≤◌, ◌-◌, ℕ, List, [], ◌∷◌, length, take, drop, get_or, Bool, true, false, Option, Some, None, IfSome, ap, sym, subst, arith, inl, inr}
-use Rattle.std.specs.Bool.{OnTrue}
-use Rattle.std.specs.List.{AllByRecursion, IsAmong}
+use Rattle.std.proofs.Common.{◌≡◌, ◌<◌, ◌≤◌, ℕ, List, [], ◌∷◌, length, false, ap, sym, subst, arith, inl, inr}
+use Rattle.std.specs.List.{IsAmong}
 use Rattle.std.proofs.lemmas.Bool.{cases_Bool}
-use Rattle.std.proofs.lemmas.List.{take_all}
 use Rattle.gl_text.specs.LogicalLines.{same_text}
-use Rattle.gl_text.specs.Decks.{Sub, Body, callees, reaches, steps}
+use Rattle.gl_text.specs.Decks.{Sub, callees, reaches, steps}
 use Rattle.gl_deck.specs.Levels.{AreLevels, AtMost, NoneUp, level_in}
 use Rattle.gl_deck.proofs.CallLaws.{exact}
-use Rattle.gl_deck.proofs.Members.{In, among_in, from_any}
+use Rattle.gl_deck.proofs.Members.{In, all_in, among_in, from_any}
 use Rattle.gl_deck.proofs.ReachLaws.{all_found}
-
-one_not_up : (b : Bool) (level : List ℕ → ℕ) (s : Sub) → OnTrue b (AtMost level (level s.head.name) s.cards) → OnTrue b (NoneUp level (s ∷ []))
-one_not_up true level s h = (h, tt)
-one_not_up false level s h = h
-
-pub not_up_by : (b : Bool) (level : List ℕ → ℕ) (s : Sub) (m : ℕ) (cards : List Body) → m ≡ level s.head.name → cards ≡ s.cards → OnTrue b (AtMost level m cards) → OnTrue b (NoneUp level (s ∷ []))
-not_up_by b level s m cards e f h =
-    one_not_up b level s (subst (λ (k : ℕ). OnTrue b (AtMost level k s.cards)) e (subst (λ (cs : List Body). OnTrue b (AtMost level m cs)) f h))
-
-all_in : {A : Type 0} (P : A → Type 0) (x : A) (xs : List A) → In x xs → AllByRecursion P xs → P x
-all_in P x [] i h = absurd i
-all_in P x (y ∷ ys) (inl e) h = subst P (sym e) h.0
-all_in P x (y ∷ ys) (inr i) h = all_in P x ys i h.1
 
 -- a subcircuit of at most a number
 abbrev Low : (List ℕ → ℕ) → List Sub → ℕ → Sub → Type 0
@@ -62,14 +47,3 @@ not_up subs levels t name none among lt = elim (cases_Bool (reaches subs t name)
 ] where
   too_low : (a b c : ℕ) → b ≤ a → b ≡ c → a < c → ⊥
   too_low a b c h e lt = omega arith
-
-pub if_there : {B : Type 0} (P : B → Type 0) (o : Option B) (x : B) → o ≡ Some x → IfSome o P → P x
-if_there P None x e h = absurd cc
-if_there P (Some y) x e h = let f : y ≡ x = cc in subst P f h
-
--- one caller more
-pub callers_more : (level : List ℕ → ℕ) (rest : List Sub) (s : Sub) (n : ℕ) → 1 ≤ length rest → s ≡ get_or rest 0 s → n ≡ length rest → NoneUp level (s ∷ []) → NoneUp level (take (n - 1) (drop 1 rest)) → NoneUp level rest
-callers_more level [] s n some is e here h = absurd (omega arith)
-callers_more level (u ∷ us) s n some is e here h =
-    let all : take (n - 1) us ≡ us = take_all (n - 1) us (omega arith) in
-    (subst (λ (v : Sub). AtMost level (level v.head.name) v.cards) is here.0, subst (λ (ss : List Sub). NoneUp level ss) all h)

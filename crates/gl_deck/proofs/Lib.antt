@@ -1,6 +1,7 @@
 pub mod Ascent
 pub mod CallLaws
 pub mod CardSteps
+pub mod CountLaws
 pub mod DraftEnds
 pub mod DraftOf
 pub mod DraftTables
@@ -14,11 +15,16 @@ pub mod MarkedLaws
 pub mod Members
 pub mod NameSteps
 pub mod NodeLaws
+pub mod NumberEnds
+pub mod NumberLaws
+pub mod NumberSteps
 pub mod PlaceLaws
 pub mod PlacedLists
 pub mod PrintingLaws
+pub mod RankLaws
 pub mod ReachLaws
 pub mod ReadLaws
+pub mod ReadyLaws
 pub mod SpreadLaws
 pub mod SubSteps
 pub mod TableLaws

@@ -1,7 +1,7 @@
 -- What stands in a list.
 use Rattle.std.proofs.Common.{◌≡◌, ◌<◌, ℕ, zero, suc, List, [], ◌∷◌, ◌++◌, length, map, cond, Bool, true, false, Some, refl, sym, ap, subst, ◌∙◌, arith, inl, inr, get_or}
 use Rattle.std.specs.Prelude.{◌⊎◌, ◌||◌, filter, flat_map, slice_get}
-use Rattle.std.specs.List.{list_any, IsAmong}
+use Rattle.std.specs.List.{AllByRecursion, list_any, IsAmong}
 use Rattle.gl_text.specs.LogicalLines.{same_text}
 use Rattle.gl_text.specs.Decks.{is_in}
 use Rattle.gl_deck.proofs.CallLaws.{exact, itself}
@@ -10,6 +10,16 @@ use Rattle.gl_deck.proofs.CallLaws.{exact, itself}
 abbrev pub In : {A : Type 0} → A → List A → Type 0
 In x [] = ⊥
 In x (y ∷ ys) = (x ≡ y) ⊎ In x ys
+
+-- what holds of all holds of one, and what holds of each holds of all
+pub all_in : {A : Type 0} (P : A → Type 0) (x : A) (xs : List A) → In x xs → AllByRecursion P xs → P x
+all_in P x [] i h = absurd i
+all_in P x (y ∷ ys) (inl e) h = subst P (sym e) h.0
+all_in P x (y ∷ ys) (inr i) h = all_in P x ys i h.1
+
+pub all_of : {A : Type 0} (P : A → Type 0) (xs : List A) → ((x : A) → In x xs → P x) → AllByRecursion P xs
+all_of P [] h = tt
+all_of P (y ∷ ys) h = (h y (inl refl), all_of P ys (λ x i. h x (inr i)))
 
 pub in_left : {A : Type 0} (x : A) (xs ys : List A) → In x xs → In x (xs ++ ys)
 in_left x [] ys h = absurd h

@@ -8,14 +8,14 @@ use Rattle.gl_deck.proofs.Members.{In, in_left, in_right, in_map, in_flat, in_fi
 abbrev pub names_on : List Sub → List (List ℕ)
 names_on found = map (λ (t : Sub). t.head.name) found ++ flat_map (λ (t : Sub). callees t.cards) found
 
-abbrev on : List Sub → Sub → Bool
+abbrev pub on : List Sub → Sub → Bool
 on found s = is_in s.head.name (names_on found)
 
 -- a further step finds no more
 abbrev pub Settled : List Sub → List Sub → Type 0
 Settled subs found = step subs found ≡ found
 
-own_on : (found : List Sub) (s : Sub) → In s found → on found s ≡ true
+pub own_on : (found : List Sub) (s : Sub) → In s found → on found s ≡ true
 own_on found s h =
     is_in_from s.head.name (names_on found) (in_left s.head.name (map (λ (t : Sub). t.head.name) found) (flat_map (λ (t : Sub). callees t.cards) found) (in_map (λ (t : Sub). t.head.name) s found h))
 
@@ -25,7 +25,7 @@ called_on found s u h g =
 
 -- ---- the steps end
 
-filter_short : (p : Sub → Bool) (ss : List Sub) → length (filter p ss) ≤ length ss
+pub filter_short : (p : Sub → Bool) (ss : List Sub) → length (filter p ss) ≤ length ss
 filter_short p [] = omega arith
 filter_short p (s ∷ ss) = by (p s) (filter_short p ss) where
   by : (b : Bool) → length (filter p ss) ≤ length ss → length (cond b (s ∷ filter p ss) (filter p ss)) ≤ length (s ∷ ss)
@@ -41,7 +41,7 @@ grow_by false true s ps qs h (inr lt) = inr (omega arith)
 grow_by false false s ps qs h o = o
 
 -- what passes a weaker test is the same, or more
-grow : (p q : Sub → Bool) (ss : List Sub) → ((s : Sub) → In s ss → p s ≡ true → q s ≡ true) → (filter q ss ≡ filter p ss) ⊎ (length (filter p ss) < length (filter q ss))
+pub grow : (p q : Sub → Bool) (ss : List Sub) → ((s : Sub) → In s ss → p s ≡ true → q s ≡ true) → (filter q ss ≡ filter p ss) ⊎ (length (filter p ss) < length (filter q ss))
 grow p q [] h = inl refl
 grow p q (s ∷ ss) h = grow_by (p s) (q s) s (filter p ss) (filter q ss) (h s (inl refl)) (grow p q ss (λ u i e. h u (inr i) e))
 
@@ -64,7 +64,7 @@ ends : (subs : List Sub) (n : ℕ) (p : Sub → Bool) → length subs ≤ length
 ends subs zero p h = last_by subs (filter p subs) p (omega arith) (step_grows subs p)
 ends subs (suc n) p h = ends_by subs n (filter p subs) (λ lt. ends subs n (on (filter p subs)) (omega arith)) (step_grows subs p)
 
-some_of : (s : Sub) (ss : List Sub) → In s ss → 1 ≤ length ss
+pub some_of : (s : Sub) (ss : List Sub) → In s ss → 1 ≤ length ss
 some_of s [] h = absurd h
 some_of s (u ∷ ss) h = omega arith
 

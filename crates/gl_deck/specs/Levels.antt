@@ -1,8 +1,9 @@
--- Numbers of subcircuits by which no call goes up.
-use Rattle.std.specs.Prelude.{ℕ, ◌≤◌, List, Option, Some, None, position, slice_index}
+-- Numbers of subcircuits by which no call goes up, and tables in which no subcircuit leads back to itself.
+use Rattle.std.specs.Prelude.{◌≡◌, ◌<◌, false, ℕ, ◌≤◌, List, Option, Some, None, IfSome, IsSome, position, slice_index}
 use Rattle.std.specs.List.{AllByRecursion}
 use Rattle.gl_text.specs.LogicalLines.{same_text}
-use Rattle.gl_text.specs.Decks.{Sub, Body, callees}
+use Rattle.gl_text.specs.Decks.{Sub, Body, callees, find_sub, reaches}
+use Rattle.gl_text.specs.Levels.{Down}
 use Rattle.gl_deck.specs.Bodies.{names_of}
 
 -- where the subcircuit of a name stands
@@ -28,3 +29,17 @@ NoneUp level subs = AllByRecursion (λ (s : Sub). AtMost level (level s.head.nam
 -- these are such numbers
 abbrev pub AreLevels : List Sub → List ℕ → Type 0
 AreLevels subs levels = NoneUp (level_in subs levels) subs
+
+-- what a subcircuit calls does not lead back to it
+abbrev pub NoneBack : List Sub → Type 0
+NoneBack subs = AllByRecursion (λ (s : Sub). AllByRecursion (λ n. IfSome (find_sub subs n) (λ t. reaches subs t s.head.name ≡ false)) (callees s.cards)) subs
+
+-- what a subcircuit calls is there
+abbrev pub AllThere : List Sub → Type 0
+AllThere subs = AllByRecursion (λ (s : Sub). AllByRecursion (λ n. IsSome (find_sub subs n)) (callees s.cards)) subs
+
+-- there is a rank by which each call goes down, and which is below a bound for each subcircuit
+pub record HasRank (subs : List Sub) (bound : ℕ) : Type 0 where
+  pub rank : List ℕ → ℕ
+  pub down : Down rank subs
+  pub below : AllByRecursion (λ (s : Sub). rank s.head.name < bound) subs

@@ -1,4 +1,5 @@
 pub mod Bodies
+pub mod CallCounts
 pub mod Calls
 pub mod Cards
 pub mod Drafts

@@ -30,19 +30,17 @@ fn find<'a>(subs: &'a IndexMap<Name, Sub>, name: &Name) -> Option<&'a Sub>
 fn leads_to(
     alloc: Global,
     subs: &IndexMap<Name, Sub>,
-    levels: Option<&[usize]>,
+    levels: &[usize],
     target: &Sub,
     name: &Name,
 ) -> Result<bool, AllocError>
     requires keyed { keys subs.now ≡ names_of (values subs.now) }
-    requires levels { IfSome levels (λ l. AreLevels (values subs.now) l.now) }
+    requires levels { AreLevels (values subs.now) levels.now }
     requires among { IsAmong (values subs.now) target.now }
     ensures leads { IfOk result (λ leads. leads ≡ decks.reaches (values subs.now) target.now name.now) }
 {
-    if let Some(levels) = levels {
-        if level_of(subs, levels, target.head().name()) < level_of(subs, levels, name) {
-            return Ok(false);
-        }
+    if level_of(subs, levels, target.head().name()) < level_of(subs, levels, name) {
+        return Ok(false);
     }
     reaches(alloc, subs, target, name)
 }
@@ -51,11 +49,11 @@ fn leads_to(
 fn site_fault(
     alloc: Global,
     subs: &IndexMap<Name, Sub>,
-    levels: Option<&[usize]>,
+    levels: &[usize],
     site: &Site,
 ) -> Result<Option<DeckFault>, AllocError>
     requires keyed { keys subs.now ≡ names_of (values subs.now) }
-    requires levels { IfSome levels (λ l. AreLevels (values subs.now) l.now) }
+    requires levels { AreLevels (values subs.now) levels.now }
     requires ports { PortsFit (values subs.now) }
     ensures refused { IfOk result (λ fault. Refuses fault (calls.site_fault (values subs.now) site.now)) }
 {
@@ -78,11 +76,11 @@ fn site_fault(
 fn first_fault(
     alloc: Global,
     subs: &IndexMap<Name, Sub>,
-    levels: Option<&[usize]>,
+    levels: &[usize],
     sites: &[Site],
 ) -> Result<Option<DeckFault>, AllocError>
     requires keyed { keys subs.now ≡ names_of (values subs.now) }
-    requires levels { IfSome levels (λ l. AreLevels (values subs.now) l.now) }
+    requires levels { AreLevels (values subs.now) levels.now }
     requires ports { PortsFit (values subs.now) }
     ensures first { IfOk result (λ fault. Refuses fault (first_some (map (calls.site_fault (values subs.now)) sites.now))) }
 {
@@ -97,9 +95,9 @@ fn first_fault(
 }
 
 /// The refusal of the first X card, in the order given, that calls a subcircuit that the file lacks, has another number of
-/// nodes than that has ports, or leads back to the subcircuit that it stands in, in this order. The time grows with the
-/// number of cards, but for X cards in what a subcircuit that leads back to itself leads to: for each of these all that it
-/// leads to is looked at.
+/// nodes than that has ports, or leads back to the subcircuit that it stands in, in this order. A call that goes down by the
+/// levels does not lead back, and each in the table does where no subcircuit leads back to itself; of any other call all that
+/// it leads to is looked at.
 pub fn first_call_fault(
     alloc: Global,
     subs: &IndexMap<Name, Sub>,
@@ -109,8 +107,6 @@ pub fn first_call_fault(
     requires ports { PortsFit (values subs.now) }
     ensures first { IfOk result (λ fault. Refuses fault (first_some (map (calls.site_fault (values subs.now)) sites.now))) }
 {
-    match levels(alloc, subs)? {
-        Some(levels) => first_fault(alloc, subs, Some(&levels), sites),
-        None => first_fault(alloc, subs, None, sites),
-    }
+    let levels = levels(alloc, subs)?;
+    first_fault(alloc, subs, &levels, sites)
 }

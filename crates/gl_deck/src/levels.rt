@@ -1,8 +1,9 @@
-ghost use Rattle.std.specs.Prelude.{◌≡◌, [], ◌∷◌, IfOk, IfSome};
-ghost use Rattle.std.specs.Bool.{OnTrue};
+ghost use Rattle.std.specs.Prelude.{◌≡◌, ◌+◌, ◌*◌, ◌<◌, ◌≤◌, ◌^◌, ◌==◌, ℕ, [], ◌∷◌, ◌++◌, IfOk, OnOk, if◌then◌else◌, length, slice_get, slice_index};
 ghost use Rattle.indexmap.specs.IndexMap.{keys, values};
-ghost use Rattle.gl_deck.specs.Bodies.{bodies_value, names_of};
-ghost use Rattle.gl_deck.specs.Levels.{AreLevels, AtMost, NoneUp, level_in, place_in};
+ghost use Rattle.gl_text.specs.Levels.{Down};
+ghost use Rattle.gl_deck.specs.Bodies.{bodies_value, body_value, names_of};
+ghost use Rattle.gl_deck.specs.CallCounts.{calls_from, calls_on, cards_at, place_called, times, uncalled_at};
+ghost use Rattle.gl_deck.specs.Levels.{AreLevels, NoneBack, level_in, place_in};
 
 use crate::{Body, Name, Sub};
 use indexmap::IndexMap;
@@ -28,154 +29,200 @@ pub fn level_of(subs: &IndexMap<Name, Sub>, levels: &[usize], name: &Name) -> us
 }
 
 /// Where the subcircuit that a card calls stands in the table.
-fn callee(subs: &IndexMap<Name, Sub>, card: &Body) -> Option<usize> {
+fn callee(subs: &IndexMap<Name, Sub>, card: &Body) -> Option<usize>
+    requires keyed { keys subs.now ≡ names_of (values subs.now) }
+    ensures place { result ≡ place_called (values subs.now) (body_value card.now) }
+{
     match card {
         Body::Dev(_, _) => None,
-        Body::Call(_, call) => subs.get_index_of(call.sub()),
+        Body::Call(_, call) => place_of(subs, call.sub()),
     }
 }
 
 /// One more call of the subcircuit at a place.
-fn count(calls: &mut [usize], place: usize) {
-    if let Some(own) = calls.get_mut(place) {
-        *own = own.saturating_add(1);
+fn count(calls: &mut [u128], place: usize)
+    requires within { place < length calls.old }
+    requires room { slice_index calls.old place + 1 < 2 ^ 128 }
+    ensures counted { (p : ℕ) → slice_index calls.new p ≡ slice_index calls.old p + times p (place ∷ []) }
+{
+    calls[place] += 1;
+}
+
+/// Counts the call that a card is, if it calls a subcircuit of the table.
+fn count_card(calls: &mut [u128], subs: &IndexMap<Name, Sub>, card: &Body)
+    requires keyed { keys subs.now ≡ names_of (values subs.now) }
+    requires sized { length calls.old ≡ length (values subs.now) }
+    requires room { (p : ℕ) → slice_index calls.old p + 1 < 2 ^ 128 }
+    ensures counted { (p : ℕ) → slice_index calls.new p
+        ≡ slice_index calls.old p + calls_on (values subs.now) (body_value card.now ∷ []) p }
+{
+    if let Some(place) = callee(subs, card) {
+        count(calls, place);
     }
 }
 
 /// Counts the calls that stand on these cards.
-fn count_cards(calls: &mut [usize], subs: &IndexMap<Name, Sub>, cards: &[Body]) {
-    for card in cards {
-        if let Some(callee) = callee(subs, card) {
-            count(calls, callee);
-        }
+fn count_cards(calls: &mut [u128], subs: &IndexMap<Name, Sub>, cards: &[Body])
+    requires keyed { keys subs.now ≡ names_of (values subs.now) }
+    requires sized { length calls.old ≡ length (values subs.now) }
+    requires room { (p : ℕ) → slice_index calls.old p + length cards.now < 2 ^ 128 }
+    ensures counted { (p : ℕ) → slice_index calls.new p
+        ≡ slice_index calls.old p + calls_on (values subs.now) (bodies_value cards.now) p }
+{
+    let mut rest = cards;
+    while let [card, behind @ ..] = rest {
+        count_card(calls, subs, card);
+        rest = behind;
     }
 }
 
-/// For each subcircuit, how many calls of it there are.
-fn call_counts(alloc: Global, subs: &IndexMap<Name, Sub>) -> Result<Vec<usize>, AllocError> {
-    let mut calls = vec![in alloc; 0; subs.len()]?;
-    for sub in subs.values() {
-        count_cards(&mut calls, subs, sub.cards());
+/// Counts the calls of these subcircuits.
+fn count_callers(calls: &mut [u128], subs: &IndexMap<Name, Sub>, callers: &[Sub])
+    requires keyed { keys subs.now ≡ names_of (values subs.now) }
+    requires sized { length calls.old ≡ length (values subs.now) }
+    requires room { (p : ℕ) → slice_index calls.old p + length callers.now * 2 ^ 64 < 2 ^ 128 }
+    ensures counted { (p : ℕ) → slice_index calls.new p
+        ≡ slice_index calls.old p + calls_from (values subs.now) callers.now p }
+{
+    let mut rest = callers;
+    while let [sub, behind @ ..] = rest {
+        count_cards(calls, subs, sub.cards());
+        rest = behind;
     }
+}
+
+/// For each subcircuit, how many cards of subcircuits call it.
+fn call_counts(alloc: Global, subs: &IndexMap<Name, Sub>) -> Result<Vec<u128>, AllocError>
+    requires keyed { keys subs.now ≡ names_of (values subs.now) }
+    ensures sized { IfOk result (λ calls. length calls.items ≡ length (values subs.now)) }
+    ensures counted { IfOk result (λ calls. (p : ℕ)
+        → slice_index calls.items p ≡ calls_from (values subs.now) (values subs.now) p) }
+{
+    let mut calls = vec![in alloc; 0; subs.len()]?;
+    count_callers(&mut calls, subs, subs.values().as_slice());
     Ok(calls)
 }
 
-/// The places of subcircuits that nothing calls.
-fn uncalled(alloc: Global, calls: &[usize]) -> Result<Vec<usize>, AllocError> {
+/// A place is added to those that are ready, where nothing calls it.
+fn add_uncalled(ready: &mut Vec<usize>, calls: &[u128], place: usize) -> Result<(), AllocError>
+    requires within { place < length calls.now }
+    ensures added { OnOk result (ready.new.items
+        ≡ ready.old.items ++ (if slice_index calls.now place == 0 then place ∷ [] else [])) }
+{
+    if calls[place] == 0 {
+        ready.push(place)?;
+    }
+    Ok(())
+}
+
+/// The places of the subcircuits that nothing calls, each once.
+fn uncalled(alloc: Global, calls: &[u128]) -> Result<Vec<usize>, AllocError>
+    ensures each_once { IfOk result (λ places. (p : ℕ) → times p places.items ≡ uncalled_at calls.now p) }
+{
     let mut places = Vec::new(alloc);
-    for (place, calls) in calls.iter().enumerate() {
-        if *calls == 0 {
-            places.push(place)?;
-        }
+    for place in 0..calls.len() {
+        add_uncalled(&mut places, calls, place)?;
     }
     Ok(places)
 }
 
 /// One call less of the subcircuit at a place, which is ready once nothing calls it.
-fn release(calls: &mut [usize], ready: &mut Vec<usize>, place: usize) -> Result<(), AllocError> {
-    if let Some(own) = calls.get_mut(place) {
-        *own = own.saturating_sub(1);
-        if *own == 0 {
-            ready.push(place)?;
-        }
+fn release(calls: &mut [u128], ready: &mut Vec<usize>, place: usize) -> Result<(), AllocError>
+    requires within { place < length calls.old }
+    requires called { 0 < slice_index calls.old place }
+    ensures fewer { OnOk result ((p : ℕ) → slice_index calls.old p ≡ slice_index calls.new p + times p (place ∷ [])) }
+    ensures freed { OnOk result ((p : ℕ) → times p ready.new.items + uncalled_at calls.old p
+        ≡ times p ready.old.items + uncalled_at calls.new p) }
+{
+    calls[place] -= 1;
+    add_uncalled(ready, calls, place)
+}
+
+/// Takes the call away that a card is.
+fn release_card(
+    calls: &mut [u128],
+    ready: &mut Vec<usize>,
+    subs: &IndexMap<Name, Sub>,
+    card: &Body,
+) -> Result<(), AllocError>
+    requires keyed { keys subs.now ≡ names_of (values subs.now) }
+    requires sized { length calls.old ≡ length (values subs.now) }
+    requires called { (p : ℕ)
+        → calls_on (values subs.now) (body_value card.now ∷ []) p ≤ slice_index calls.old p }
+    ensures fewer { OnOk result ((p : ℕ) → slice_index calls.old p
+        ≡ slice_index calls.new p + calls_on (values subs.now) (body_value card.now ∷ []) p) }
+    ensures freed { OnOk result ((p : ℕ) → times p ready.new.items + uncalled_at calls.old p
+        ≡ times p ready.old.items + uncalled_at calls.new p) }
+{
+    match callee(subs, card) {
+        Some(place) => release(calls, ready, place),
+        None => Ok(()),
+    }
+}
+
+/// Takes the calls on these cards away.
+fn release_cards(
+    calls: &mut [u128],
+    ready: &mut Vec<usize>,
+    subs: &IndexMap<Name, Sub>,
+    cards: &[Body],
+) -> Result<(), AllocError>
+    requires keyed { keys subs.now ≡ names_of (values subs.now) }
+    requires sized { length calls.old ≡ length (values subs.now) }
+    requires called { (p : ℕ)
+        → calls_on (values subs.now) (bodies_value cards.now) p ≤ slice_index calls.old p }
+    ensures fewer { OnOk result ((p : ℕ) → slice_index calls.old p
+        ≡ slice_index calls.new p + calls_on (values subs.now) (bodies_value cards.now) p) }
+    ensures freed { OnOk result ((p : ℕ) → times p ready.new.items + uncalled_at calls.old p
+        ≡ times p ready.old.items + uncalled_at calls.new p) }
+{
+    let mut rest = cards;
+    while let [card, behind @ ..] = rest {
+        release_card(calls, ready, subs, card)?;
+        rest = behind;
     }
     Ok(())
 }
 
 /// Takes the calls of the subcircuit at a place away.
 fn release_calls(
-    calls: &mut [usize],
+    calls: &mut [u128],
     ready: &mut Vec<usize>,
     subs: &IndexMap<Name, Sub>,
     place: usize,
-) -> Result<(), AllocError> {
-    if let Some((_, sub)) = subs.get_index(place) {
-        for card in sub.cards() {
-            if let Some(callee) = callee(subs, card) {
-                release(calls, ready, callee)?;
-            }
-        }
+) -> Result<(), AllocError>
+    requires keyed { keys subs.now ≡ names_of (values subs.now) }
+    requires sized { length calls.old ≡ length (values subs.now) }
+    requires called { (p : ℕ)
+        → calls_on (values subs.now) (cards_at (slice_get (values subs.now) place)) p ≤ slice_index calls.old p }
+    ensures fewer { OnOk result ((p : ℕ) → slice_index calls.old p
+        ≡ slice_index calls.new p + calls_on (values subs.now) (cards_at (slice_get (values subs.now) place)) p) }
+    ensures freed { OnOk result ((p : ℕ) → times p ready.new.items + uncalled_at calls.old p
+        ≡ times p ready.old.items + uncalled_at calls.new p) }
+{
+    match subs.values().as_slice().get(place) {
+        Some(sub) => release_cards(calls, ready, subs, sub.cards()),
+        None => Ok(()),
     }
-    Ok(())
 }
 
-/// Numbers for the subcircuits by their places, from the number of subcircuits down to 1, each caller before what it calls.
-/// A subcircuit with a caller that gets no such number gets 0, and so does one that leads back to itself.
-fn numbers(alloc: Global, subs: &IndexMap<Name, Sub>) -> Result<Vec<usize>, AllocError> {
+/// Numbers of the subcircuits, by their places, by which no call of a subcircuit goes up. Where no subcircuit leads back to
+/// itself, each call goes down.
+pub fn levels(alloc: Global, subs: &IndexMap<Name, Sub>) -> Result<Vec<usize>, AllocError>
+    requires keyed { keys subs.now ≡ names_of (values subs.now) }
+    ensures not_up { IfOk result (λ levels. AreLevels (values subs.now) levels.items) }
+    ensures down { IfOk result (λ levels. NoneBack (values subs.now)
+        → Down (level_in (values subs.now) levels.items) (values subs.now)) }
+{
     let mut calls = call_counts(alloc, subs)?;
     let mut ready = uncalled(alloc, &calls)?;
     let mut levels = vec![in alloc; 0; subs.len()]?;
-    for done in 0..subs.len() {
-        let Some(place) = ready.pop() else {
-            return Ok(levels);
-        };
-        if let Some(level) = levels.get_mut(place) {
-            *level = subs.len() - done;
-        }
+    let mut next = subs.len();
+    // What nothing calls any more is next; the numbers go down to 1.
+    while let Some(place) = ready.pop() {
+        levels[place] = next;
+        next -= 1;
         release_calls(&mut calls, &mut ready, subs, place)?;
     }
     Ok(levels)
-}
-
-/// What a card calls has at most this number.
-fn card_not_up(subs: &IndexMap<Name, Sub>, levels: &[usize], level: usize, card: &Body) -> bool
-    requires keyed { keys subs.now ≡ names_of (values subs.now) }
-    ensures not_up { OnTrue result (AtMost (level_in (values subs.now) levels.now) level (bodies_value (card.now ∷ []))) }
-{
-    match card {
-        Body::Dev(_, _) => true,
-        Body::Call(_, call) => level_of(subs, levels, call.sub()) <= level,
-    }
-}
-
-/// What these cards call has at most this number.
-fn cards_not_up(subs: &IndexMap<Name, Sub>, levels: &[usize], level: usize, cards: &[Body]) -> bool
-    requires keyed { keys subs.now ≡ names_of (values subs.now) }
-    ensures not_up { OnTrue result (AtMost (level_in (values subs.now) levels.now) level (bodies_value cards.now)) }
-{
-    let mut rest = cards;
-    while let [card, behind @ ..] = rest {
-        if !card_not_up(subs, levels, level, card) {
-            return false;
-        }
-        rest = behind;
-    }
-    true
-}
-
-/// What a subcircuit calls has at most its own number.
-fn calls_not_up(subs: &IndexMap<Name, Sub>, levels: &[usize], sub: &Sub) -> bool
-    requires keyed { keys subs.now ≡ names_of (values subs.now) }
-    ensures not_up { OnTrue result (NoneUp (level_in (values subs.now) levels.now) (sub.now ∷ [])) }
-{
-    let level = level_of(subs, levels, sub.head().name());
-    cards_not_up(subs, levels, level, sub.cards())
-}
-
-/// By these numbers no call of these subcircuits goes up.
-fn none_goes_up(subs: &IndexMap<Name, Sub>, levels: &[usize], callers: &[Sub]) -> bool
-    requires keyed { keys subs.now ≡ names_of (values subs.now) }
-    ensures not_up { OnTrue result (NoneUp (level_in (values subs.now) levels.now) callers.now) }
-{
-    let mut rest = callers;
-    while let [sub, behind @ ..] = rest {
-        if !calls_not_up(subs, levels, sub) {
-            return false;
-        }
-        rest = behind;
-    }
-    true
-}
-
-/// Numbers of the subcircuits, by their places, by which no call of a subcircuit goes up, and each goes down that no
-/// subcircuit which leads back to itself leads to.
-pub fn levels(alloc: Global, subs: &IndexMap<Name, Sub>) -> Result<Option<Vec<usize>>, AllocError>
-    requires keyed { keys subs.now ≡ names_of (values subs.now) }
-    ensures not_up { IfOk result (λ found. IfSome found (λ levels. AreLevels (values subs.now) levels.items)) }
-{
-    let levels = numbers(alloc, subs)?;
-    if none_goes_up(subs, &levels, subs.values().as_slice()) {
-        return Ok(Some(levels));
-    }
-    Ok(None)
 }

@@ -29,5 +29,5 @@ pub use body::Body;
 pub use deck::Deck;
 pub use fault::DeckFault;
 pub use gl_card::{CallCard, Card, DevCard, Head, Letter, Memory, ModelCard, Name, Tail};
-pub use laws::lines_make_the_deck;
+pub use laws::{lines_make_the_deck, tables_have_ranks};
 pub use sub::Sub;

@@ -1,8 +1,5 @@
-use Rattle.gl_cells.proofs.RankLaws.{level_is, skip_is}
+use Rattle.gl_cells.proofs.ReadRanks.{levels_settled, skips_settled}
 use Rattle.gl_cells.proofs.laws.levels_and_skips_are_settled.Goals as goal
 
 pub returns : goal.returns
-returns c = record {
-  level = λ rank subs s down here low. level_is rank subs s down here low;
-  skip = λ rank subs s down here low. skip_is rank subs s down here low;
-}
+returns c = record { level = levels_settled; skip = skips_settled }
