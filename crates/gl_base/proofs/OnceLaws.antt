@@ -5,7 +5,8 @@ use Rattle.std.specs.List.{list_any, position_or_len}
 use Rattle.std.proofs.lemmas.Bool.{cases_Bool, not_from_false, not-true, lt-ltb, or_cases, false_from_ne_true, or_left, or_right}
 use Rattle.std.proofs.lemmas.List.Quantifiers.{position-Some}
 use Rattle.std.proofs.lemmas.List.Sums.{position_or_len_is}
-use Rattle.gl_match.proofs.Lists.{Once, in_head, in_tail, in_cons, in_none, in_filter, from_filter, once_filter}
+use Rattle.std.proofs.lemmas.List.Sorted.{Contains-permutation, length_permutation}
+use Rattle.gl_match.proofs.Lists.{Once, split, in_head, in_tail, in_cons, in_none, in_filter, from_filter, once_filter}
 
 -- a filter keeps no more than there was
 pub length_filter : {A : Type 0} (p : A → Bool) (xs : List A) → length (filter p xs) ≤ length xs
@@ -35,6 +36,18 @@ once_apart [] d i j once lt below e = omega (arith, below)
 once_apart (x ∷ xs) d i zero once lt below e = omega (arith, lt)
 once_apart (x ∷ xs) d zero (suc j) once lt below e = once.0 (j, omega (arith, below), any_default xs j x d (omega (arith, below)) ∙ sym e)
 once_apart (x ∷ xs) d (suc i) (suc j) once lt below e = once_apart xs d i j once.1 (omega (arith, lt)) (omega (arith, below)) e
+
+-- elements that stand once are no more than those among which they stand
+pub no_more : {A : Type 0} (xs ys : List A) → Once xs → Once ys → ((x : A) → Contains xs x → Contains ys x) → length xs ≤ length ys
+no_more [] ys once_xs once_ys h = omega arith
+no_more (x ∷ xs) ys once_xs once_ys h =
+    let r = split ys x (h x (in_head x xs)) once_ys in
+    let rest = no_more xs r.0 once_xs.1 r.2.1 (λ y g.
+    elim (in_cons x r.0 y (Contains-permutation ys (x ∷ r.0) y r.1 (h y (in_tail x xs y g)))) [
+      | inl same ↦ absurd (once_xs.0 (subst (λ z. Contains xs z) (sym same) g))
+      | inr later ↦ later
+    ]) in
+    omega (arith, rest, length_permutation ys (x ∷ r.0) r.1)
 
 module _ {A : Type 0} (same : A → A → Bool) where
   -- each once, in order of first appearance

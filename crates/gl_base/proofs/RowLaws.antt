@@ -17,7 +17,6 @@ inverter_is = record {
   deck_places = omega arith;
   cell_places = omega arith;
   few_rails = omega arith;
-  few_pinned = omega arith;
 }
 
 pub pass_gate_is : IsSound one_pass_gate
@@ -27,5 +26,4 @@ pass_gate_is = record {
   deck_places = omega arith;
   cell_places = omega arith;
   few_rails = omega arith;
-  few_pinned = omega arith;
 }

@@ -45,12 +45,12 @@ device_by type types nets d = record { kind = type_number types (type d); nets =
 abbrev pub device_of : Source → List (List ℕ) → Card → Device
 device_of s = device_by (type_in s) (types_of s)
 
--- the circuit of the deck's devices; a rail that no device has is no net, and a pinned name that no device has pins nothing
+-- the circuit of the deck's devices; a rail that no device has is no net, a pinned name that no device has pins nothing, and any other pins its net once
 abbrev pub circuit_of : Source → Circuit
 circuit_of s = let nets = nets_of s.devices in record {
   shapes = map classes_of (types_of s);
   devices = map (device_of s nets) s.devices;
   nets = length nets;
   rails = map (λ rail. position (same_text rail) nets) (all_rails s.rails);
-  pinned = filter_map (λ name. position (same_text name) nets) s.pinned;
+  pinned = filter_map (λ name. position (same_text name) nets) (once s.pinned);
 }

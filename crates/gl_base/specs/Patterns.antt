@@ -39,4 +39,3 @@ pub record IsSound (s : Source) : Type 0 where
   pub deck_places : places_count s.devices ≤ 67108864
   pub cell_places : places_count (flat_map (λ cards. cards) s.cells) ≤ 67108864
   pub few_rails : length s.rails ≤ 134217728
-  pub few_pinned : length s.pinned ≤ 67108864

@@ -13,7 +13,7 @@ use Rattle.gl_match.specs.Listing.{Instance}
 use Rattle.gl_match.specs.Choice.{sets_of}
 use Rattle.gl_match.specs.Picks.{picks_of}
 use Rattle.gl_base.specs.Libraries.{Library, read_library}
-use Rattle.gl_base.specs.BaseCircuit.{circuit_of}
+use Rattle.gl_base.specs.BaseCircuit.{Source, circuit_of}
 use Rattle.gl_base.specs.Stems.{stem_with, names_in}
 use Rattle.gl_base.specs.Rounds.{source_of, cells_at, searched, cell_pattern}
 use Rattle.gl_base.specs.RoundReports.{rounds_of, left_of, report_text}
@@ -92,9 +92,13 @@ stem_of names = stem_from names 9 0
 
 -- ---- the report
 
--- the lists of the searched cells of level 0
+-- the lists of the searched cells of level 0, of a source
+abbrev pub lists_in : Source → Library → List (List Instance)
+lists_in s library = let c = circuit_of s in map (λ (cell : Sub). instances_of c (cell_pattern s cell)) (searched (cells_at 0 library))
+
+-- the same where no name is kept
 abbrev pub lists_of : Flat → Library → List (List Instance)
-lists_of flat library = let s = source_of flat library in let c = circuit_of s in map (λ (cell : Sub). instances_of c (cell_pattern s cell)) (searched (cells_at 0 library))
+lists_of flat library = lists_in (source_of flat library) library
 
 -- the lists are complete
 abbrev pub are_listed : Flat → Library → List (List Instance) → Bool

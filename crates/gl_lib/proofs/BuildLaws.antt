@@ -1,10 +1,10 @@
 -- What the tables give is the circuit of the deck and the patterns of the cells, and want of memory alone refuses it.
 use Rattle.std.proofs.Common.{◌≡◌, ◌+◌, ◌<◌, ℕ, List, ◌++◌, length, get_or, map, Option, None, Some, sym, ap, ◌∙◌, subst, arith, inl, inr}
-use Rattle.std.specs.Prelude.{Contains, ◌⊎◌, All, filter_map, position}
+use Rattle.std.specs.Prelude.{Contains, ◌⊎◌, All, filter_map, find, not, position, Result, Ok, Err, IsErrAnd}
 use Rattle.std.proofs.lemmas.List.Elements.{Contains-get_or, All-map}
 use Rattle.gl_text.specs.LogicalLines.{same_text}
 use Rattle.gl_text.specs.Cards.{Device as Card, Head}
-use Rattle.gl_text.specs.Decks.{once}
+use Rattle.gl_text.specs.Decks.{once, is_in}
 use Rattle.gl_text.specs.Flattening.{top_ports}
 use Rattle.gl_text.specs.CellCards.{devices_in, IsCellOf}
 use Rattle.gl_match.specs.declared.role.Role.{Role}
@@ -16,19 +16,21 @@ use Rattle.gl_graph.specs.Faults.{circuit_fault, pattern_fault}
 use Rattle.gl_base.specs.Rails.{all_rails}
 use Rattle.gl_base.specs.TypeNames.{TypeName, type_by, word_of, classes_of}
 use Rattle.gl_base.specs.BaseCircuit.{Source, nets_of, net_number, types_of, type_in, device_by, device_of, circuit_of}
-use Rattle.gl_base.specs.Patterns.{role_of, role_by, pattern_of, IsSound}
+use Rattle.gl_base.specs.Patterns.{Base, role_of, role_by, pattern_of, IsSound}
 use Rattle.gl_base.specs.Libraries.{Library}
 use Rattle.gl_base.specs.Rounds.{cells_at, searched, cell_pattern}
+use Rattle.gl_base.specs.Keeping.{keeping, base_of, unless_unknown, base_keeping}
 use Rattle.gl_base.proofs.OnceLaws.{found, once_kept}
 use Rattle.gl_base.proofs.TextLaws as text
 use Rattle.gl_flat.specs.Numbered.{Numbered, NumberedDevice}
 use Rattle.gl_lib.specs.Sources.{cards_in, source_in, device_of_flat, AreSound}
+use Rattle.gl_lib.specs.declared.fault.KeepFault.{KeepFault}
+use Rattle.gl_lib.specs.Kept.{IsFound, IsRefusal, unknown_of, Gives}
 use Rattle.gl_lib.specs.Numbered.{AreNets, IsNumbered, IsAmongTypes}
-use Rattle.gl_lib.proofs.CircuitLaws.{few_nets}
 use Rattle.gl_lib.proofs.CellLaws.{cells_among}
 use Rattle.gl_lib.proofs.FitLaws.{pattern_fits}
 use Rattle.gl_lib.proofs.PatternLaws.{ports_are_nets}
-use Rattle.gl_lib.proofs.SoundLaws.{circuit_sound, circuit_small, cell_numbered, pattern_sound, pattern_few}
+use Rattle.gl_lib.proofs.SoundLaws.{keeping_sound, circuit_sound, circuit_small, cell_numbered, pattern_sound, pattern_few}
 use Rattle.gl_lib.proofs.FlatLaws.{flat_devices_same, nets_once}
 
 -- where there is no refusal, a fault is want of memory
@@ -84,19 +86,16 @@ module _ (s : Source) (words : List ℕ → Option (List ℕ)) (kinds : List Typ
       λ i. pattern_given (parts_are i) (roles_are i) (numbers_are i)
 
 -- what is given for the circuit
-pub circuit_is : (f : Numbered) (library : Library) → AreSound f library → (words : List ℕ → Option (List ℕ)) (kinds : List TypeName)
+pub circuit_is : (f : Numbered) (library : Library) → AreSound f library → (keep : List (List ℕ)) (words : List ℕ → Option (List ℕ)) (kinds : List TypeName)
     → ((name : List ℕ) → words name ≡ word_of (f.models ++ library.deck.models) name) → kinds ≡ types_of (source_in f library)
-    → (nets net_names all rail_items : List (List ℕ)) (shapes : List (List ℕ)) (devices : List NumberedDevice) (parts : List Device) (count : ℕ) (stands : List (Option ℕ)) (pinned : List ℕ) (top : Option Head)
-    → net_names ≡ f.nets → nets ≡ once net_names → rail_items ≡ all → all ≡ all_rails f.rails → shapes ≡ map classes_of (types_of (source_in f library)) → devices ≡ f.devices → top ≡ f.top
-    → parts ≡ map (device_of_flat (type_by words) kinds) devices → count ≡ length nets → stands ≡ map (λ rail. position (same_text rail) nets) rail_items → pinned ≡ filter_map (λ name. position (same_text name) nets) (top_ports top)
-    → circuit_given shapes parts count stands pinned ≡ circuit_of (source_in f library)
-circuit_is f library is words kinds words_are kinds_are nets net_names all rail_items shapes devices parts count stands pinned top names_are e items_are all_are shapes_are devices_are top_is p n r q =
+    → (nets all rail_items : List (List ℕ)) (shapes : List (List ℕ)) (devices : List NumberedDevice) (parts : List Device) (count : ℕ) (stands : List (Option ℕ)) (pinned : List ℕ) (top : Option Head)
+    → nets ≡ nets_of (cards_in f) → rail_items ≡ all → all ≡ all_rails f.rails → shapes ≡ map classes_of (types_of (source_in f library)) → devices ≡ f.devices → top ≡ f.top
+    → parts ≡ map (device_of_flat (type_by words) kinds) devices → count ≡ length nets → stands ≡ map (λ rail. position (same_text rail) nets) rail_items → pinned ≡ filter_map (λ name. position (same_text name) nets) (once (top_ports top ++ keep))
+    → circuit_given shapes parts count stands pinned ≡ circuit_of (keeping keep (source_in f library))
+circuit_is f library is keep words kinds words_are kinds_are nets all rail_items shapes devices parts count stands pinned top nets_are items_are all_are shapes_are devices_are top_is p n r q =
     let s = source_in f library in
     let words_same : words ≡ word_of (f.models ++ library.deck.models) = λ i name. words_are name i in
     let once_nets = nets_once f.nets (cards_in f) is.nets_are in
-    let stay : once f.nets ≡ f.nets = text.once_is f.nets ∙ once_kept same_text text.exact text.itself f.nets once_nets in
-    let flat_nets : nets ≡ f.nets = e ∙ ap once names_are ∙ stay in
-    let nets_are : nets ≡ nets_of s.devices = flat_nets ∙ is.nets_are in
     let first : parts ≡ map (device_of_flat (type_in s) (types_of s)) f.devices = p ∙ (λ i. map (device_of_flat (type_by (words_same i)) (kinds_are i)) (devices_are i)) in
     let parts_are : parts ≡ map (device_of s (nets_of s.devices)) s.devices =
     first
@@ -105,7 +104,7 @@ circuit_is f library is words kinds words_are kinds_are nets net_names all rail_
     let count_is : count ≡ length (nets_of s.devices) = n ∙ ap length nets_are in
     let rails_are : rail_items ≡ all_rails f.rails = items_are ∙ all_are in
     let stands_are : stands ≡ map (λ rail. position (same_text rail) (nets_of s.devices)) (all_rails f.rails) = r ∙ (λ i. map (λ rail. position (same_text rail) (nets_are i)) (rails_are i)) in
-    let pinned_are : pinned ≡ filter_map (λ name. position (same_text name) (nets_of s.devices)) (top_ports f.top) = q ∙ (λ i. filter_map (λ name. position (same_text name) (nets_are i)) (top_ports (top_is i))) in
+    let pinned_are : pinned ≡ filter_map (λ name. position (same_text name) (nets_of s.devices)) (once (top_ports f.top ++ keep)) = q ∙ (λ i. filter_map (λ name. position (same_text name) (nets_are i)) (once (top_ports (top_is i) ++ keep))) in
     λ i. circuit_given (shapes_are i) (parts_are i) (count_is i) (stands_are i) (pinned_are i)
 
 pub circuit_few : (s : Source) → IsSound s → (given : Circuit) → given ≡ circuit_of s → circuit_size given < 4294967295
@@ -114,18 +113,26 @@ circuit_few s is given e = subst (λ c. circuit_size c < 4294967295) (sym e) (ci
 pub circuit_unrefused : (s : Source) → IsSound s → (given : Circuit) → given ≡ circuit_of s → circuit_fault given ≡ None
 circuit_unrefused s is given e = ap circuit_fault e ∙ circuit_sound s is
 
--- a flat deck has few nets
-pub few_flat_nets : (f : Numbered) (library : Library) → AreSound f library → length f.nets < 4294967296
-few_flat_nets f library is = let same = ap length is.nets_are in omega (arith, same, few_nets (cards_in f), is.source.deck_places)
-
--- each pattern fits into the circuit
-pub all_fit : (f : Numbered) (library : Library) → AreSound f library → (circuit : Circuit) (patterns : List Pattern) → circuit ≡ circuit_of (source_in f library)
+-- each pattern fits into the circuit in which names are kept
+pub all_fit : (f : Numbered) (library : Library) → AreSound f library → (keep : List (List ℕ)) (circuit : Circuit) (patterns : List Pattern) → circuit ≡ circuit_of (keeping keep (source_in f library))
     → patterns ≡ map (cell_pattern (source_in f library)) (searched (cells_at 0 library)) → All (FitsInto circuit) patterns
-all_fit f library is circuit patterns circuit_is patterns_are =
-    let s = source_in f library in
+all_fit f library is keep circuit patterns circuit_is patterns_are =
+    let s : Source = keeping keep (source_in f library) in
     let cells = searched (cells_at 0 library) in
     subst (λ c. All (FitsInto c) patterns) (sym circuit_is)
     (subst (All (FitsInto (circuit_of s))) (sym patterns_are)
     (All-map (FitsInto (circuit_of s)) (cell_pattern s) cells (λ k d lt.
     let cell = get_or cells k d in
-    pattern_fits s is.source cell.head (devices_in cell.cards) (cells_among 0 library cell (Contains-get_or cells k d lt)) (is.whole_cells k d lt))))
+    pattern_fits s (keeping_sound keep (source_in f library) is.source) cell.head (devices_in cell.cards) (cells_among 0 library cell (Contains-get_or cells k d lt)) (is.whole_cells k d lt))))
+
+-- the name that is told, where one is none
+pub name_refused : (told : Option (List ℕ)) (keep nets : List (List ℕ)) (s : Source) (library : Library) → nets ≡ nets_of s.devices → IsFound told (find (λ name. not (is_in name nets)) keep)
+    → IsRefusal told (base_keeping keep s library)
+name_refused None keep nets s library nets_are first = tt
+name_refused (Some name) keep nets s library nets_are first =
+    ap (λ unknown. unless_unknown unknown (base_of (keeping keep s) library)) ((λ i. find (λ other. not (is_in other (sym nets_are i))) keep) ∙ first)
+
+-- an answer that passes a refusal on
+pub refusal_given : (result : Result Base KeepFault) (fault : KeepFault) (wanted : Result Base (List ℕ)) → IsErrAnd result (λ e. e ≡ fault) → IsRefusal (unknown_of fault) wanted → Gives result wanted
+refusal_given (Ok base) fault wanted given refused = absurd given
+refusal_given (Err other) fault wanted given refused = subst (λ f. IsRefusal (unknown_of f) wanted) (sym given) refused

@@ -102,6 +102,11 @@ pub names_inserted : (start keys names : List (List ℕ)) → start ≡ [] → k
 names_inserted start keys names empty e =
     e ∙ ap (λ ks. insert_all same_text ks names) empty ∙ inserted_once same_text text.exact text.itself names ∙ sym (text.once_is names)
 
+-- names and then other names into an empty set
+pub both_inserted : (start first second names others : List (List ℕ)) → start ≡ [] → first ≡ insert_all same_text start names → second ≡ insert_all same_text first others → second ≡ once (names ++ others)
+both_inserted start first second names others empty one two =
+    names_inserted start second (names ++ others) empty (two ∙ ap (λ ks. insert_all same_text ks others) one ∙ sym (fold-append (insert_key same_text) start names others))
+
 -- types into an empty set
 pub types_inserted : (start keys kinds : List TypeName) → start ≡ [] → keys ≡ insert_all same_type start kinds → keys ≡ each_once kinds
 types_inserted start keys kinds empty e =

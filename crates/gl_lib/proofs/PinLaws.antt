@@ -1,5 +1,5 @@
 -- The nets of names that pin nets.
-use Rattle.std.proofs.Common.{◌≡◌, ◌≤◌, ℕ, List, [], ◌∷◌, length, get_or, Option, None, Some, refl, ap, ◌∙◌, arith, inl, inr}
+use Rattle.std.proofs.Common.{◌≡◌, ℕ, List, [], ◌∷◌, length, get_or, Option, None, Some, refl, ap, ◌∙◌, inl, inr}
 use Rattle.std.specs.Prelude.{Contains, filter_map, position}
 use Rattle.std.specs.List.{cons_option}
 use Rattle.std.proofs.lemmas.Bool.{not_from_true, lt-ltb}
@@ -23,14 +23,6 @@ from_filter_map {X} {Y} f (x ∷ xs) y h = go (f x) refl h (from_filter_map f xs
         | inl same ↦ (x, e ∙ ap Some same)
         | inr later ↦ rest later
       ]
-
--- no more is kept than there was
-pub length_kept : {X Y : Type 0} (f : X → Option Y) (xs : List X) → length (filter_map f xs) ≤ length xs
-length_kept f [] = omega arith
-length_kept {X} {Y} f (x ∷ xs) = go (f x) (length_kept f xs) where
-  go : (o : Option Y) → length (filter_map f xs) ≤ length xs → length (cons_option o (filter_map f xs)) ≤ length (x ∷ xs)
-  go None few = omega (arith, few)
-  go (Some z) few = omega (arith, few)
 
 -- the nets of names have no fault as pinned nets
 pub pins_sound : (nets names : List (List ℕ)) → first_in (pin_fault (length nets)) 0 (filter_map (λ name. position (same_text name) nets) names) ≡ None

@@ -1,6 +1,6 @@
 -- What is made of a sound source: circuit and patterns have no fault and few enough parts, and each pattern fits.
 use Rattle.std.proofs.Common.{◌≡◌, ◌+◌, ◌<◌, ◌≤◌, ℕ, List, [], ◌∷◌, ◌++◌, length, map, eqb, None, sym, ap, ◌∙◌, subst, arith, inl, inr, length-append}
-use Rattle.std.specs.Prelude.{Contains, All, flat_map, position}
+use Rattle.std.specs.Prelude.{Contains, All, filter_map, flat_map, position}
 use Rattle.std.proofs.lemmas.Bool.{ne_eqb}
 use Rattle.std.proofs.lemmas.List.{length-map}
 use Rattle.std.proofs.lemmas.List.Sums.{sum_by-append}
@@ -8,6 +8,7 @@ use Rattle.std.proofs.lemmas.List.Elements.{Contains-append_left, Contains-appen
 use Rattle.gl_match.proofs.Lists.{in_cons, in_none, in_flat_map}
 use Rattle.gl_text.specs.LogicalLines.{same_text}
 use Rattle.gl_text.specs.Cards.{Device as Card, Head}
+use Rattle.gl_text.specs.Decks.{once}
 use Rattle.gl_text.specs.CellCards.{places_count, IsCellOf}
 use Rattle.gl_graph.specs.declared.fault.BuildFault.TheVariants.{NoDevice}
 use Rattle.gl_graph.specs.Built.{circuit_size, pattern_size}
@@ -16,14 +17,16 @@ use Rattle.gl_base.specs.Rails.{all_rails}
 use Rattle.gl_base.specs.TypeNames.{type_by, word_of, classes_of}
 use Rattle.gl_base.specs.BaseCircuit.{Source, nets_of, net_number, types_of, type_in, device_by, device_of, circuit_of}
 use Rattle.gl_base.specs.Patterns.{role_of, pattern_of, IsSound}
+use Rattle.gl_base.specs.Keeping.{keeping}
+use Rattle.gl_base.proofs.KeepLaws.{few_pinned}
+use Rattle.gl_base.proofs.OnceLaws.{no_more}
 use Rattle.gl_base.proofs.TextLaws as text
 use Rattle.gl_lib.specs.Numbered.{IsNumbered}
 use Rattle.gl_lib.proofs.FaultLaws.{neither_fault, no_fault}
 use Rattle.gl_lib.proofs.InsertLaws.{places_are}
-use Rattle.gl_lib.proofs.PinLaws.{pins_sound, length_kept}
+use Rattle.gl_lib.proofs.PinLaws.{pins_sound}
 use Rattle.gl_lib.proofs.CircuitLaws.{all_numbered, cards_sound, shapes_sound, shapes_short, rails_apart, places_of_cards, few_nets, few_types}
 use Rattle.gl_lib.proofs.PatternLaws.{placed, roles_sound, ports_sound, ports_are_nets}
-use Rattle.gl_lib.proofs.TableLaws.{no_more}
 
 -- each card of the deck is among all, and each card of a cell
 deck_within : (s : Source) (card : Card) → Contains s.devices card → Contains (s.devices ++ flat_map (λ cards. cards) s.cells) card
@@ -46,6 +49,16 @@ places_of_one (c ∷ cs) cards h =
 pub shapes_are_short : (s : Source) (shapes : List (List ℕ)) → shapes ≡ map classes_of (types_of s) → All (λ classes. length classes < 4294967296) shapes
 shapes_are_short s shapes e = subst (All (λ classes. length classes < 4294967296)) (sym e) (shapes_short (word_of (s.deck_models ++ s.library_models)) (s.devices ++ flat_map (λ cards. cards) s.cells))
 
+-- where names are kept, a source stays sound
+pub keeping_sound : (keep : List (List ℕ)) (s : Source) → IsSound s → IsSound (keeping keep s)
+keeping_sound keep s is = record {
+  deck_cards = is.deck_cards;
+  rails_differ = is.rails_differ;
+  deck_places = is.deck_places;
+  cell_places = is.cell_places;
+  few_rails = is.few_rails;
+}
+
 module _ (s : Source) (is : IsSound s) where
   -- the deck's cards have numbers
   pub deck_numbered : All (IsNumbered (type_in s) (types_of s) (nets_of s.devices)) s.devices
@@ -65,7 +78,7 @@ module _ (s : Source) (is : IsSound s) where
       let nets = nets_of s.devices in
       neither_fault _ _ (shapes_sound words (s.devices ++ flat_map (λ cards. cards) s.cells))
       (neither_fault _ _ (cards_sound words (types_of s) nets s.devices is.deck_cards deck_numbered)
-      (neither_fault _ _ (rails_apart nets (all_rails s.rails) (text.rails_once s.rails is.rails_differ)) (pins_sound nets s.pinned)))
+      (neither_fault _ _ (rails_apart nets (all_rails s.rails) (text.rails_once s.rails is.rails_differ)) (pins_sound nets (once s.pinned))))
 
   -- the circuit has few enough parts
   pub circuit_small : circuit_size (circuit_of s) < 4294967295
@@ -74,8 +87,8 @@ module _ (s : Source) (is : IsSound s) where
       let parts = length-map s.devices (device_of s nets) in
       let places = places_of_cards (type_in s) (types_of s) nets s.devices in
       let stands = length-map (all_rails s.rails) (λ rail. position (same_text rail) nets) in
-      let pins = length_kept (λ name. position (same_text name) nets) s.pinned in
-      omega (arith, few_shapes, parts, places, stands, pins, few_nets s.devices, is.deck_places, is.few_rails, is.few_pinned)
+      let pins : length (filter_map (λ name. position (same_text name) nets) (once s.pinned)) ≤ length nets = few_pinned s in
+      omega (arith, few_shapes, parts, places, stands, pins, few_nets s.devices, is.deck_places, is.few_rails)
 
   module _ (head : Head) (cards : List Card) (among : Contains s.cells cards) (whole : IsCellOf head cards) where
     -- the cell's cards have numbers

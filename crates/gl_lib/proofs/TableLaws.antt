@@ -1,18 +1,20 @@
 -- The tables of a base, from what is read.
-use Rattle.std.proofs.Common.{◌≡◌, ◌+◌, ◌<◌, ◌≤◌, ℕ, List, [], ◌∷◌, ◌++◌, length, map, Option, refl, sym, ap, ◌∙◌, subst, arith, inl, inr}
-use Rattle.std.specs.Prelude.{Contains, flat_map}
+use Rattle.std.proofs.Common.{◌≡◌, ◌+◌, ◌<◌, ℕ, List, [], ◌∷◌, ◌++◌, length, map, Option, refl, sym, ap, ◌∙◌, arith}
+use Rattle.std.specs.Prelude.{flat_map}
 use Rattle.std.proofs.lemmas.List.{map-append, length-map}
-use Rattle.std.proofs.lemmas.List.Sorted.{Contains-permutation, length_permutation}
-use Rattle.gl_match.proofs.Lists.{Once, split, in_head, in_tail, in_cons}
-use Rattle.gl_text.specs.Decks.{Sub}
+use Rattle.gl_text.specs.LogicalLines.{same_text}
+use Rattle.gl_text.specs.Decks.{Sub, once}
 use Rattle.gl_text.specs.CellCards.{devices_in}
 use Rattle.gl_base.specs.TypeNames.{TypeName, type_by, word_of, each_once}
-use Rattle.gl_base.specs.BaseCircuit.{types_of, type_in}
+use Rattle.gl_base.specs.BaseCircuit.{nets_of, types_of, type_in}
 use Rattle.gl_base.specs.Patterns.{IsSound}
 use Rattle.gl_base.specs.Libraries.{Library}
+use Rattle.gl_base.proofs.OnceLaws.{once_kept}
+use Rattle.gl_base.proofs.TextLaws as text
 use Rattle.gl_flat.specs.Numbered.{Numbered, NumberedDevice, named_card}
-use Rattle.gl_lib.specs.Sources.{cards_in, cells_in, cards_of_cells, source_in, type_of_flat}
-use Rattle.gl_lib.proofs.FlatLaws.{flat_types_same}
+use Rattle.gl_lib.specs.Sources.{cards_in, cells_in, cards_of_cells, source_in, type_of_flat, AreSound}
+use Rattle.gl_lib.proofs.CircuitLaws.{few_nets}
+use Rattle.gl_lib.proofs.FlatLaws.{flat_types_same, nets_once}
 use Rattle.gl_lib.proofs.InsertLaws.{places_are}
 
 -- the devices of all cells, taken together
@@ -39,14 +41,15 @@ few_cards f library is =
     let same = ap length (flat_of_map library.deck.subs) in
     omega (arith, same, places_are (cards_in f), places_are cards, length-map f.devices (named_card f.nets), is.deck_places, is.cell_places)
 
--- elements that stand once are no more than those among which they stand
-pub no_more : {A : Type 0} (xs ys : List A) → Once xs → Once ys → ((x : A) → Contains xs x → Contains ys x) → length xs ≤ length ys
-no_more [] ys once_xs once_ys h = omega arith
-no_more (x ∷ xs) ys once_xs once_ys h =
-    let r = split ys x (h x (in_head x xs)) once_ys in
-    let rest = no_more xs r.0 once_xs.1 r.2.1 (λ y g.
-    elim (in_cons x r.0 y (Contains-permutation ys (x ∷ r.0) y r.1 (h y (in_tail x xs y g)))) [
-      | inl same ↦ absurd (once_xs.0 (subst (λ z. Contains xs z) (sym same) g))
-      | inr later ↦ later
-    ]) in
-    omega (arith, rest, length_permutation ys (x ∷ r.0) r.1)
+-- the names of a flat deck's nets, each once, are the nets of its devices
+pub nets_read : (f : Numbered) (library : Library) → AreSound f library → (names nets : List (List ℕ)) → names ≡ f.nets → nets ≡ once names → nets ≡ nets_of (cards_in f)
+nets_read f library is names nets names_are e =
+    e
+    ∙ ap once names_are
+    ∙ text.once_is f.nets
+    ∙ once_kept same_text text.exact text.itself f.nets (nets_once f.nets (cards_in f) is.nets_are)
+    ∙ is.nets_are
+
+-- a flat deck has few nets
+pub few_flat_nets : (f : Numbered) (library : Library) → AreSound f library → length f.nets < 4294967296
+few_flat_nets f library is = let same = ap length is.nets_are in omega (arith, same, few_nets (cards_in f), is.source.deck_places)

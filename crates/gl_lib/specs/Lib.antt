@@ -3,3 +3,4 @@ pub mod Sources
 pub mod Numbered
 pub mod Tables
 pub mod Samples
+pub mod Kept

@@ -1,12 +1,16 @@
-ghost use Rattle.std.specs.Prelude.{◌≡◌, map, All, IfOk};
+ghost use Rattle.std.specs.Prelude.{◌≡◌, All, IfOk};
 ghost use Rattle.gl_match.specs.Graph.{FitsInto};
-ghost use Rattle.gl_base.specs.BaseCircuit.{circuit_of};
-ghost use Rattle.gl_base.specs.Rounds.{cells_at, searched, cell_pattern};
+ghost use Rattle.gl_base.specs.Keeping.{keeping, base_of, base_keeping};
+ghost use Rattle.gl_lib.specs.Kept.{Gives};
 ghost use Rattle.gl_lib.specs.Sources.{AreSound, source_in};
+ghost use Rattle.gl_lib.specs.Tables.{ArePartsSound, AreTablesOf, source_of};
 
 use crate::building::{build_circuit, build_patterns};
+use crate::fault::KeepFault;
+use crate::kept::refuse_unknown;
 use crate::parts::Parts;
-use crate::tables::tables_of;
+use crate::tables::{Tables, tables_of};
+use gl_card::Name;
 use gl_cells::Library;
 use gl_flat::Flat;
 use gl_graph::{Circuit, Pattern};
@@ -50,20 +54,43 @@ impl Base {
     }
 }
 
-/// The circuit of a flat deck, and the patterns of all searched cells of level 0 of a library, in library order.
-/// Only want of memory refuses it.
+/// The circuit in which the nets of some names are kept, and the patterns of the searched cells.
+fn build_base(
+    alloc: Global,
+    parts: &Parts,
+    tables: &Tables,
+    keep: &[Name],
+) -> Result<Base, AllocError>
+    requires sound { ArePartsSound parts.now }
+    requires tables { AreTablesOf (source_of parts.now) tables.now }
+    ensures base { IfOk result (λ base. base ≡ base_of (keeping keep.now (source_of parts.now)) parts.now.library.now) }
+    ensures fits { IfOk result (λ base. All (FitsInto base.circuit) base.patterns) }
+{
+    let shapes = tables.kinds.shapes(alloc)?;
+    let patterns = build_patterns(alloc, parts, tables, &shapes)?;
+    let circuit = build_circuit(alloc, parts, tables, shapes, keep)?;
+    Ok(Base { circuit, patterns })
+}
+
+/// The circuit of a flat deck, in which the nets of the names in `keep` are pinned as those of the ports of the top are, and
+/// the patterns of all searched cells of level 0 of a library, in library order. It is refused exactly where a kept name is
+/// no net of a device, by the first such name, or for want of memory. A name may be kept more than once, and any number of
+/// names may be.
 ///
-/// It takes time linear in the devices' places, and copies each net's name once.
-pub fn base_of(alloc: Global, flat: &Flat, library: &Library) -> Result<Base, AllocError>
+/// It takes time linear in the devices' places and the kept names, and copies the name of each net and each pinned name once.
+pub fn circuit_of(
+    alloc: Global,
+    flat: &Flat,
+    library: &Library,
+    keep: &[Name],
+) -> Result<Base, KeepFault>
     requires { AreSound flat.now library.now }
-    ensures circuit { IfOk result (λ base. base.circuit ≡ circuit_of (source_in flat.now library.now)) }
-    ensures patterns { IfOk result (λ base. base.patterns ≡ map (cell_pattern (source_in flat.now library.now)) (searched (cells_at 0 library.now))) }
+    ensures gives { Gives result (base_keeping keep.now (source_in flat.now library.now) library.now) }
     ensures fits { IfOk result (λ base. All (FitsInto base.circuit) base.patterns) }
 {
     let parts = Parts { flat, library };
     let tables = tables_of(alloc, &parts)?;
-    let shapes = tables.kinds.shapes(alloc)?;
-    let patterns = build_patterns(alloc, &parts, &tables, &shapes)?;
-    let circuit = build_circuit(alloc, &parts, &tables, shapes)?;
-    Ok(Base { circuit, patterns })
+    refuse_unknown(alloc, &tables.nets, keep)?;
+    let base = build_base(alloc, &parts, &tables, keep)?;
+    Ok(base)
 }

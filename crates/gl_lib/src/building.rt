@@ -5,6 +5,7 @@ ghost use Rattle.gl_base.specs.TypeNames.{classes_of};
 ghost use Rattle.gl_base.specs.BaseCircuit.{circuit_of, types_of};
 ghost use Rattle.gl_base.specs.Patterns.{pattern_of};
 ghost use Rattle.gl_base.specs.Rounds.{cells_at, searched, cell_pattern};
+ghost use Rattle.gl_base.specs.Keeping.{keeping};
 ghost use Rattle.gl_lib.specs.Sources.{IsWhole, cells_in};
 ghost use Rattle.gl_lib.specs.Tables.{ArePartsSound, AreTablesOf, source_of};
 
@@ -12,9 +13,10 @@ use crate::cells::{cards_of, searched_cells};
 use crate::devices::{devices_of, flat_devices, numbers_of};
 use crate::names::Names;
 use crate::parts::Parts;
-use crate::roles::{pinned_nets, rail_nets, roles_of};
+use crate::pinned::pinned_nets;
+use crate::roles::{rail_nets, roles_of};
 use crate::tables::Tables;
-use gl_card::{DevCard, Head};
+use gl_card::{DevCard, Head, Name};
 use gl_cells::Sub;
 use gl_graph::{BuildFault, Circuit, Pattern, Shape};
 use std::alloc::{AllocError, Global};
@@ -97,23 +99,24 @@ pub fn build_patterns(
     Ok(patterns)
 }
 
-/// The circuit of the deck's devices.
+/// The circuit of the deck's devices, in which the nets of some names are kept.
 pub fn build_circuit(
     alloc: Global,
     parts: &Parts,
     tables: &Tables,
     shapes: Vec<Shape>,
+    keep: &[Name],
 ) -> Result<Circuit, AllocError>
     requires sound { ArePartsSound parts.now }
     requires tables { AreTablesOf (source_of parts.now) tables.now }
     requires shapes { shapes.items ≡ map classes_of (types_of (source_of parts.now)) }
-    ensures circuit { IfOk result (λ c. c ≡ circuit_of (source_of parts.now)) }
+    ensures circuit { IfOk result (λ c. c ≡ circuit_of (keeping keep.now (source_of parts.now))) }
 {
     let flat = parts.flat;
-    let nets = Names::of(alloc, flat.nets())?;
+    let nets = &tables.nets;
     let devices = flat_devices(alloc, &tables.words, &tables.kinds, flat.devices())?;
-    let rails = rail_nets(alloc, tables.rails.items(), &nets)?;
-    let pinned = pinned_nets(alloc, flat.top(), &nets)?;
+    let rails = rail_nets(alloc, tables.rails.items(), nets)?;
+    let pinned = pinned_nets(alloc, flat.top(), keep, nets)?;
     match Circuit::build(alloc, shapes, devices, nets.count(), rails, pinned) {
         Ok(circuit) => Ok(circuit),
         Err(fault) => Err(want_of_memory(fault)),

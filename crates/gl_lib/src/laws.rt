@@ -1,5 +1,5 @@
 //! Laws over the definitions: each is the contract of a function that does nothing.
-ghost use Rattle.std.specs.Prelude.{◌≡◌, ◌<◌, ℕ, List, [], ◌∷◌, None, Some, length, map, Contains};
+ghost use Rattle.std.specs.Prelude.{◌≡◌, ◌<◌, ℕ, List, [], ◌∷◌, None, Some, Ok, Err, codes, length, map, Contains};
 ghost use Rattle.std.specs.List.{AllByRecursion};
 ghost use Rattle.gl_text.specs.Cards.{Device as Card, Head as Cell, global};
 ghost use Rattle.gl_text.specs.CellCards.{IsCellOf};
@@ -10,6 +10,7 @@ ghost use Rattle.gl_base.specs.TypeNames.{classes_of};
 ghost use Rattle.gl_base.specs.BaseCircuit.{Source, circuit_of, types_of};
 ghost use Rattle.gl_base.specs.Patterns.{pattern_of, IsSound};
 ghost use Rattle.gl_base.specs.Rounds.{cells_at, searched, cell_pattern};
+ghost use Rattle.gl_base.specs.Keeping.{base_of, base_keeping};
 ghost use Rattle.gl_lib.specs.Sources.{AreSound, source_in};
 ghost use Rattle.gl_lib.specs.Samples.{sample_deck, sample_library};
 ghost use Rattle.gl_printed.specs.ReadCards.{IsFine};
@@ -53,4 +54,21 @@ pub fn base_rows()
       roles = Rail 1 ∷ Port 1 ∷ [];
       ports = 0 ∷ 1 ∷ [];
     } ∷ [] }
+{}
+
+/// The same deck with kept names: `0`, two nets, a port of the top that pins its net anyway, a name given twice, and names that are unknown.
+pub fn kept_base_rows()
+    ensures kept { base_keeping (codes "0" ∷ codes "out" ∷ codes "in" ∷ codes "0" ∷ []) (source_in sample_deck sample_library) sample_library ≡ Ok (record {
+      circuit = record {
+        shapes = (0 ∷ 1 ∷ 0 ∷ 2 ∷ []) ∷ (0 ∷ 1 ∷ 0 ∷ 2 ∷ []) ∷ (0 ∷ 0 ∷ []) ∷ (0 ∷ 1 ∷ []) ∷ (0 ∷ 0 ∷ []) ∷ [];
+        devices = record { kind = 0; nets = 0 ∷ 1 ∷ 2 ∷ 2 ∷ [] } ∷ record { kind = 1; nets = 0 ∷ 1 ∷ 3 ∷ 3 ∷ [] } ∷ record { kind = 2; nets = 0 ∷ 3 ∷ [] } ∷ [];
+        nets = 4;
+        rails = Some 3 ∷ Some 2 ∷ [];
+        pinned = 1 ∷ 2 ∷ 3 ∷ 0 ∷ [];
+      };
+      patterns = map (cell_pattern (source_in sample_deck sample_library)) (searched (cells_at 0 sample_library));
+    }) }
+    ensures none_kept { base_keeping [] (source_in sample_deck sample_library) sample_library ≡ Ok (base_of (source_in sample_deck sample_library) sample_library) }
+    ensures first_unknown { base_keeping (codes "out" ∷ codes "nosuch" ∷ codes "in" ∷ codes "nc" ∷ []) (source_in sample_deck sample_library) sample_library ≡ Err (codes "nosuch") }
+    ensures port_on_no_device { base_keeping (codes "vdd" ∷ codes "nc" ∷ codes "nosuch" ∷ []) (source_in sample_deck sample_library) sample_library ≡ Err (codes "nc") }
 {}

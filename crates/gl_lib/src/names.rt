@@ -91,6 +91,13 @@ impl Names {
         self.set.get_index_of(name).map(|number| number as u32)
     }
 
+    /// A name is there.
+    pub fn has(&self, name: &Name) -> bool
+        ensures has { result ≡ is_in name.now self.now }
+    {
+        self.set.contains(name)
+    }
+
     /// The number of a name that is there.
     pub fn number(&self, name: &Name) -> u32
         requires { is_in name.now self.now ≡ true }

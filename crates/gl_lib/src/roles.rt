@@ -1,11 +1,9 @@
-ghost use Rattle.std.specs.Prelude.{◌≡◌, map, filter_map, position, Option, IfOk};
-ghost use Rattle.std.specs.Option.{option_copied};
+ghost use Rattle.std.specs.Prelude.{◌≡◌, map, position, Option, IfOk};
 ghost use Rattle.gl_text.specs.LogicalLines.{same_text};
-ghost use Rattle.gl_text.specs.Flattening.{top_ports};
 ghost use Rattle.gl_base.specs.Patterns.{role_by};
 
 use crate::names::Names;
-use gl_card::{Head, Name};
+use gl_card::Name;
 use gl_graph::{NetId, Role};
 use std::alloc::{AllocError, Global};
 
@@ -47,22 +45,5 @@ pub fn rail_nets(
     rails
         .iter()
         .map(|rail| nets.find(rail).map(|net| NetId(net)))
-        .collect(alloc)
-}
-
-/// The nets of the ports of a top, but of those that stand on no device; none where there is no top.
-pub fn pinned_nets(
-    alloc: Global,
-    top: Option<&Head>,
-    nets: &Names,
-) -> Result<Vec<NetId>, AllocError>
-    ensures pinned { IfOk result (λ pinned. pinned.items ≡ filter_map (λ name. position (same_text name) nets.now) (top_ports (option_copied top.entry))) }
-{
-    let Some(head) = top else {
-        return Ok(Vec::new(alloc));
-    };
-    head.ports()
-        .iter()
-        .filter_map(|port| nets.find(port).map(|net| NetId(net)))
         .collect(alloc)
 }

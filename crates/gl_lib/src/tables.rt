@@ -16,6 +16,8 @@ pub struct Tables {
     pub kinds: Kinds,
     /// The rails, by their numbers; `0` is the first.
     pub rails: Names,
+    /// The nets of the deck, by their numbers.
+    pub nets: Names,
 }
 
 /// The tables of a base.
@@ -29,9 +31,11 @@ pub fn tables_of(alloc: Global, parts: &Parts) -> Result<Tables, AllocError>
     let subs = library.subs().values().as_slice();
     let kinds = Kinds::of(alloc, &words, flat.devices(), subs)?;
     let rails = Names::of_rails(alloc, flat.rails())?;
+    let nets = Names::of(alloc, flat.nets())?;
     Ok(Tables {
         words,
         kinds,
         rails,
+        nets,
     })
 }

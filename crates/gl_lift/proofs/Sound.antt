@@ -1,6 +1,6 @@
 -- Circuit and patterns are made of the flat deck.
-use Rattle.std.proofs.Common.{◌≡◌, ◌≤◌, List, length, Option, None, Ok, refl, sym, ap, ◌∙◌, subst, arith}
-use Rattle.gl_text.specs.Cards.{Device, Head}
+use Rattle.std.proofs.Common.{◌≡◌, List, length, None, Ok, refl, sym, ap, ◌∙◌, subst, arith}
+use Rattle.gl_text.specs.Cards.{Device}
 use Rattle.gl_text.specs.Decks.{Deck}
 use Rattle.gl_text.specs.Flattening.{Flat, top_ports}
 use Rattle.gl_base.specs.Rails.{AreRails, run_rails}
@@ -30,9 +30,6 @@ same_source flat library = ap (λ (cards : List Device). record {
   pinned = top_ports flat.top;
 }) (cards_back flat)
 
-no_ports : (top : Option Head) → top ≡ None → length (top_ports top) ≤ 67108864
-no_ports top e = subst (λ t. length (top_ports t) ≤ 67108864) (sym e) (omega arith)
-
 source_sound : (deck : Deck) (library : Library) (flat : Flat) → IsLiftable deck → IsSearchable library → flat_deck deck library ≡ Ok flat → IsSound (source_of flat library)
 source_sound deck library flat d l h =
     let rails = run_rails deck.globals library.deck.globals in
@@ -46,7 +43,6 @@ source_sound deck library flat d l h =
       deck_places = known.places;
       cell_places = l.places;
       few_rails = omega (arith, count, few, d.few, l.few);
-      few_pinned = no_ports flat.top parts.no_top;
     }
 
 pub flat_sound : (deck : Deck) (library : Library) (flat : Flat) → IsLiftable deck → IsSearchable library → flat_deck deck library ≡ Ok flat → AreSound (numbered flat) library

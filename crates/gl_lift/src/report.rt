@@ -1,7 +1,7 @@
 //! From a deck and a library to the report.
 ghost use Rattle.std.specs.Prelude.{◌≡◌, length, map, All, IfOk, IfErr};
 ghost use Rattle.gl_match.specs.Graph.{FitsInto};
-ghost use Rattle.gl_base.specs.BaseCircuit.{circuit_of};
+ghost use Rattle.gl_base.specs.BaseCircuit.{circuit_of as base_circuit};
 ghost use Rattle.gl_base.specs.Rounds.{cells_at, searched, cell_pattern, IsRound};
 ghost use Rattle.gl_base.specs.Lifting.{flat_deck, IsLiftReport};
 ghost use Rattle.gl_graph.specs.Built.{IsBuiltPattern};
@@ -12,10 +12,11 @@ ghost use Rattle.gl_lift.specs.Liftable.{IsLiftable, IsSearchable};
 ghost use Rattle.gl_lift.specs.Reported.{IsNumberedReport, round_names};
 
 use crate::laws::{flat_decks_are_sound, reports_by_numbers_are_reports};
+use gl_base::kept_names_pin_once;
 use gl_cells::{Deck, Library};
 use gl_flat::{Flat, FlatFault, flatten};
 use gl_graph::Pattern;
-use gl_lib::{Base, base_of, run_rails, run_rails_are_fine};
+use gl_lib::{Base, KeepFault, circuit_of, run_rails, run_rails_are_fine};
 use gl_match::Memory;
 use gl_name::stem;
 use gl_report::{Names, left, print, rounds_are_reportable};
@@ -46,7 +47,7 @@ fn know_patterns(patterns: &[Pattern])
 /// All that the round of a flat deck speaks of has a name.
 fn know_names(base: &Base, round: &Round, stem: &[u8], flat: &Flat, library: &Library)
     requires sound { AreSound flat.now library.now }
-    requires circuit { base.now.circuit ≡ circuit_of (source_in flat.now library.now) }
+    requires circuit { base.now.circuit ≡ base_circuit (source_in flat.now library.now) }
     requires patterns { base.now.patterns ≡ map (cell_pattern (source_in flat.now library.now)) (searched (cells_at 0 library.now)) }
     requires round { IsRound base.now.circuit 1 base.now.patterns round.now.lists.items (map (λ v. v.items) round.now.picks.items) }
     ensures named { IsReportable (round_names flat.now stem.now) library.now round.now.lists.items (map (λ v. v.items) round.now.picks.items) }
@@ -58,6 +59,29 @@ fn know_names(base: &Base, round: &Round, stem: &[u8], flat: &Flat, library: &Li
     let _ = flat;
     let _ = library;
     rounds_are_reportable();
+}
+
+/// The one fault where no name is kept.
+fn want_of_memory(fault: KeepFault) -> Memory
+    requires { fault ≡ KeepFault.Memory }
+{
+    match fault {
+        KeepFault::Memory => Memory,
+        _ => unreachable!(),
+    }
+}
+
+/// The circuit and the patterns of a flat deck and a library, where no name is kept.
+fn base_of(alloc: Global, flat: &Flat, library: &Library) -> Result<Base, Memory>
+    requires sound { AreSound flat.now library.now }
+    ensures circuit { IfOk result (λ base. base.circuit ≡ base_circuit (source_in flat.now library.now)) }
+    ensures patterns { IfOk result (λ base. base.patterns ≡ map (cell_pattern (source_in flat.now library.now)) (searched (cells_at 0 library.now))) }
+{
+    kept_names_pin_once();
+    match circuit_of(alloc, flat, library, &[]) {
+        Ok(base) => Ok(base),
+        Err(fault) => Err(want_of_memory(fault)),
+    }
 }
 
 /// The report of a flat deck.

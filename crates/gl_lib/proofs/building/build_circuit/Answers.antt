@@ -1,20 +1,16 @@
-use Rattle.std.proofs.Common.{◌∙◌, length, sym, ap, subst, arith}
+use Rattle.std.proofs.Common.{◌∙◌, sym, subst}
 use Rattle.std.specs.Prelude.{All}
 use Rattle.std.specs.Option.{option_copied}
 use Rattle.indexmap.specs.IndexMap.{get}
 use Rattle.gl_text.specs.LogicalLines.{same_text}
 use Rattle.gl_base.specs.TypeNames.{type_by}
+use Rattle.gl_base.specs.Keeping.{keeping}
 use Rattle.gl_lib.specs.Numbered.{IsAmongTypes}
 use Rattle.gl_lib.specs.Tables.{source_of}
 use Rattle.gl_lib.proofs.FlatLaws.{flat_among}
-use Rattle.gl_lib.proofs.BuildLaws.{only_memory, few_flat_nets, flat_by_tables, circuit_is, circuit_few, circuit_unrefused}
+use Rattle.gl_lib.proofs.SoundLaws.{keeping_sound}
+use Rattle.gl_lib.proofs.BuildLaws.{only_memory, flat_by_tables, circuit_is, circuit_few, circuit_unrefused}
 use Rattle.gl_lib.proofs.building.build_circuit.Goals as goal
-
-pub of-requires : goal.of-requires
-of-requires c =
-    let p = c.args.parts.now in
-    let same = ap length c.nets.ensures.nets in
-    omega (arith, same, few_flat_nets p.flat.now p.library.now c.requires.sound)
 
 pub flat_devices-requires : goal.flat_devices-requires
 flat_devices-requires c =
@@ -27,19 +23,19 @@ pub build-requires : goal.build-requires
 build-requires c =
     let p = c.args.parts.now in
     let t = c.args.tables.now in
-    let given = circuit_is p.flat.now p.library.now c.requires.sound (get same_text t.words) t.kinds c.requires.tables.words_are c.requires.tables.kinds_are
-    c.in_ok-nets.nets c.nets.result.now t.rails c.items.result.now c.args.shapes.items c.devices.result.now c.in_ok-devices.devices.items c.count.result c.in_ok-rails.rails.items c.in_ok-pinned.pinned.items (option_copied c.top.result)
-    c.nets.ensures.nets c.in_ok-nets.ensures.names c.items.ensures.items c.requires.tables.rails_are c.requires.shapes c.devices.ensures.devices c.top.ensures.top
+    let given = circuit_is p.flat.now p.library.now c.requires.sound c.args.keep.now (get same_text t.words) t.kinds c.requires.tables.words_are c.requires.tables.kinds_are
+    t.nets t.rails c.items.result.now c.args.shapes.items c.devices.result.now c.in_ok-devices.devices.items c.count.result c.in_ok-rails.rails.items c.in_ok-pinned.pinned.items (option_copied c.top.result)
+    c.requires.tables.nets_are c.items.ensures.items c.requires.tables.rails_are c.requires.shapes c.devices.ensures.devices c.top.ensures.top
     c.in_ok-devices.ensures.devices c.count.ensures.count c.in_ok-rails.ensures.nets c.in_ok-pinned.ensures.pinned in
-    record { size = circuit_few (source_of p) c.requires.sound.source _ given }
+    record { size = circuit_few (keeping c.args.keep.now (source_of p)) (keeping_sound c.args.keep.now (source_of p) c.requires.sound.source) _ given }
 
 pub returns-in-Ok : goal.returns-in-Ok
 returns-in-Ok c =
     let p = c.args.parts.now in
     let t = c.args.tables.now in
-    let given = circuit_is p.flat.now p.library.now c.requires.sound (get same_text t.words) t.kinds c.requires.tables.words_are c.requires.tables.kinds_are
-    c.in_ok-nets.nets c.nets.result.now t.rails c.items.result.now c.args.shapes.items c.devices.result.now c.in_ok-devices.devices.items c.count.result c.in_ok-rails.rails.items c.in_ok-pinned.pinned.items (option_copied c.top.result)
-    c.nets.ensures.nets c.in_ok-nets.ensures.names c.items.ensures.items c.requires.tables.rails_are c.requires.shapes c.devices.ensures.devices c.top.ensures.top
+    let given = circuit_is p.flat.now p.library.now c.requires.sound c.args.keep.now (get same_text t.words) t.kinds c.requires.tables.words_are c.requires.tables.kinds_are
+    t.nets t.rails c.items.result.now c.args.shapes.items c.devices.result.now c.in_ok-devices.devices.items c.count.result c.in_ok-rails.rails.items c.in_ok-pinned.pinned.items (option_copied c.top.result)
+    c.requires.tables.nets_are c.items.ensures.items c.requires.tables.rails_are c.requires.shapes c.devices.ensures.devices c.top.ensures.top
     c.in_ok-devices.ensures.devices c.count.ensures.count c.in_ok-rails.ensures.nets c.in_ok-pinned.ensures.pinned in
     record { circuit = c.in-Ok.ensures.answer.0 ∙ given }
 
@@ -47,8 +43,8 @@ pub want_of_memory-requires : goal.want_of_memory-requires
 want_of_memory-requires c =
     let p = c.args.parts.now in
     let t = c.args.tables.now in
-    let given = circuit_is p.flat.now p.library.now c.requires.sound (get same_text t.words) t.kinds c.requires.tables.words_are c.requires.tables.kinds_are
-    c.in_ok-nets.nets c.nets.result.now t.rails c.items.result.now c.args.shapes.items c.devices.result.now c.in_ok-devices.devices.items c.count.result c.in_ok-rails.rails.items c.in_ok-pinned.pinned.items (option_copied c.top.result)
-    c.nets.ensures.nets c.in_ok-nets.ensures.names c.items.ensures.items c.requires.tables.rails_are c.requires.shapes c.devices.ensures.devices c.top.ensures.top
+    let given = circuit_is p.flat.now p.library.now c.requires.sound c.args.keep.now (get same_text t.words) t.kinds c.requires.tables.words_are c.requires.tables.kinds_are
+    t.nets t.rails c.items.result.now c.args.shapes.items c.devices.result.now c.in_ok-devices.devices.items c.count.result c.in_ok-rails.rails.items c.in_ok-pinned.pinned.items (option_copied c.top.result)
+    c.requires.tables.nets_are c.items.ensures.items c.requires.tables.rails_are c.requires.shapes c.devices.ensures.devices c.top.ensures.top
     c.in_ok-devices.ensures.devices c.count.ensures.count c.in_ok-rails.ensures.nets c.in_ok-pinned.ensures.pinned in
-    only_memory _ _ (circuit_unrefused (source_of p) c.requires.sound.source _ given) c.in-Err.ensures.answer
+    only_memory _ _ (circuit_unrefused (keeping c.args.keep.now (source_of p)) (keeping_sound c.args.keep.now (source_of p) c.requires.sound.source) _ given) c.in-Err.ensures.answer

@@ -4,7 +4,7 @@ use Rattle.gl_text.specs.LogicalLines.{same_text}
 use Rattle.gl_base.specs.Rails.{all_rails}
 use Rattle.gl_base.specs.TypeNames.{word_of}
 use Rattle.gl_lib.specs.Sources.{cards_of_cells}
-use Rattle.gl_lib.proofs.TableLaws.{types_read, few_cards}
+use Rattle.gl_lib.proofs.TableLaws.{types_read, few_cards, nets_read, few_flat_nets}
 use Rattle.gl_lib.proofs.tables.tables_of.Goals as goal
 
 pub of-requires : goal.of-requires
@@ -15,6 +15,11 @@ of-requires c =
     let devices = ap length c.devices.ensures.devices in
     let cells = ap (λ ss. length (cards_of_cells ss)) subs in
     omega (arith, devices, cells, few_cards p.flat.now p.library.now c.requires.source)
+
+pub of-requires-2 : goal.of-requires-2
+of-requires-2 c =
+    let same = ap length c.nets.ensures.nets in
+    omega (arith, same, few_flat_nets c.args.parts.now.flat.now c.args.parts.now.library.now c.requires)
 
 pub returns : goal.returns
 returns c =
@@ -28,5 +33,6 @@ returns c =
         words_are = words;
         kinds_are = types_read p.flat.now p.library.now (get same_text c.in_ok-words.words) c.devices.result.now c.as_slice-subs.result.now _ words c.devices.ensures.devices subs c.in_ok-kinds.ensures.types;
         rails_are = c.in_ok-rails.ensures.rails ∙ ap all_rails c.rails.ensures.rails;
+        nets_are = nets_read p.flat.now p.library.now c.requires _ _ c.nets.ensures.nets c.in_ok-nets.ensures.names;
       };
     }
