@@ -1,9 +1,9 @@
 //! Clashes of names in cells.
-ghost use Rattle.std.specs.Prelude.{◌≡◌, None, IfErr, OnOk};
+ghost use Rattle.std.specs.Prelude.{◌≡◌, None, map, IfErr, OnOk};
 ghost use Rattle.indexmap.specs.IndexMap.{keys, values};
-ghost use Rattle.gl_printed.specs.ReadDecks.{AllDiffer};
+ghost use Rattle.gl_printed.specs.ReadDecks.{AllDiffer, body_name};
 ghost use Rattle.gl_deck.specs.Bodies.{names_of};
-ghost use Rattle.gl_flat.specs.Ways.{PortsDiffer};
+ghost use Rattle.gl_flat.specs.Ways.{NamesDiffer, PortsDiffer};
 ghost use Rattle.gl_base.specs.Libraries.{clash_cause};
 ghost use Rattle.gl_cells.specs.Causes.{cause_of, IsFoundCause};
 ghost use Rattle.gl_cells.specs.Limited.{clashes_cause};
@@ -23,6 +23,7 @@ fn refuse_clash(
     requires keyed { keys subs.now ≡ names_of (values subs.now) }
     requires ports { PortsDiffer (values subs.now) }
     requires rails { AllDiffer rails.now }
+    requires names { AllDiffer (map body_name cell.now.cards) }
     ensures ok { OnOk result (clash_cause rails.now (values subs.now) cell.now ≡ None) }
     ensures refused { IfErr result (λ fault. IsFoundCause (cause_of fault) (clash_cause rails.now (values subs.now) cell.now)) }
 {
@@ -44,6 +45,7 @@ pub fn refuse_clashes(
     requires keyed { keys subs.now ≡ names_of (values subs.now) }
     requires ports { PortsDiffer (values subs.now) }
     requires rails { AllDiffer rails.now }
+    requires names { NamesDiffer (values subs.now) }
     ensures ok { OnOk result (clashes_cause rails.now (values subs.now) (values subs.now) ≡ None) }
     ensures refused { IfErr result (λ fault. IsFoundCause (cause_of fault) (clashes_cause rails.now (values subs.now) (values subs.now))) }
 {

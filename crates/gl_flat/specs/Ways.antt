@@ -5,7 +5,7 @@ use Rattle.indexmap.specs.IndexMap.{keys, values}
 use Rattle.gl_text.specs.LogicalLines.{same_text}
 use Rattle.gl_text.specs.Decks as decks
 use Rattle.gl_text.specs.Flattening.{Place, top_place, net_of}
-use Rattle.gl_printed.specs.ReadDecks.{AllDiffer}
+use Rattle.gl_printed.specs.ReadDecks.{AllDiffer, body_name}
 use Rattle.gl_deck.specs.Bodies.{names_of}
 use Rattle.gl_flat.specs.declared.step.Step.{Step}
 use Rattle.gl_flat.specs.declared.scene.Scene.{Scene}
@@ -33,6 +33,10 @@ actual_node s name = node_at s.call.now.nodes (position (same_text name) s.ports
 -- no subcircuit has a port twice
 abbrev pub PortsDiffer : List decks.Sub → Type 0
 PortsDiffer subs = AllByRecursion (λ (s : decks.Sub). AllDiffer s.head.ports) subs
+
+-- no two cards of a subcircuit have one name
+abbrev pub NamesDiffer : List decks.Sub → Type 0
+NamesDiffer subs = AllByRecursion (λ (s : decks.Sub). AllDiffer (map body_name s.cards)) subs
 
 -- each subcircuit stands under its name, and its ports are known
 pub record IsScene (s : Scene) : Type 0 where
