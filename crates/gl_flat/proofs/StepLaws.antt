@@ -117,3 +117,9 @@ same_devices n k rails s t cards e f = ap (λ x. flat_devices x s n top_place ca
 pub no_memory : {V : Type 0} (M : V → Flat → Type 0) (r : Result V FlatFault) (w : Result Flat Fault) → IsErrAnd r (λ e. e ≡ faults.Memory) → GivesOf M r w
 no_memory M (Ok v) w e = absurd e
 no_memory M (Err g) w e = subst (λ x. IsRefusal (fault_of x) w) (sym e) tt
+
+-- an answer that passes a refusal on, whatever the rails
+pub refused_on : {V : Type 0} (r : Result V FlatFault) (f : FlatFault) (deck : Deck) (top : Option (List ℕ)) → IsErrAnd r (λ e. e ≡ f) → ((rails : List (List ℕ)) → IsRefusal (fault_of f) (flatten deck rails top))
+    → IfErr r (λ e. (rails : List (List ℕ)) → IsRefusal (fault_of e) (flatten deck rails top))
+refused_on (Ok v) f deck top e h = tt
+refused_on (Err g) f deck top e h = λ rails. subst (λ x. IsRefusal (fault_of x) (flatten deck rails top)) (sym e) (h rails)

@@ -1,4 +1,4 @@
-ghost use Rattle.std.specs.Prelude.{◌≡◌, ◌≤◌, ◌<◌, ◌^◌, ◌∷◌, [], Some, None, length, map, flat_map, OnOk, IfOk, IfErr};
+ghost use Rattle.std.specs.Prelude.{◌≡◌, ◌≤◌, ◌<◌, ◌^◌, ◌∷◌, ℕ, List, [], Some, None, Ok, length, map, flat_map, OnOk, IfOk, IfErr};
 ghost use Rattle.std.specs.Option.{option_copied};
 ghost use Rattle.indexmap.specs.IndexMap.{keys, values};
 ghost use Rattle.gl_text.specs.Decks.{once};
@@ -305,6 +305,21 @@ fn text_of_chosen(
     text_of_cards(alloc, &scene, deck, rails, chosen)
 }
 
+/// The cards that are flattened, where they expand to no more than may be; or the refusal.
+fn chosen_cards<'a>(
+    alloc: Global,
+    deck: &'a Deck,
+    top: Option<&Name>,
+) -> Result<Chosen<'a>, FlatFault>
+    ensures chosen { IfOk result (λ c. flat.chosen deck.now (option_copied top.entry) ≡ Ok (option_copied c.head, bodies_value c.cards.now)) }
+    ensures fits { IfOk result (λ c. excess_in deck.now.subs (bodies_value c.cards.now) ≡ None) }
+    ensures refused { IfErr result (λ fault. (rails : List (List ℕ)) → IsRefusal (fault_of fault) (flat.flatten deck.now rails (option_copied top.entry))) }
+{
+    let chosen = choose(alloc, deck, top)?;
+    refuse_excess(alloc, deck.subs(), chosen.cards)?;
+    Ok(chosen)
+}
+
 /// The flat deck: every device with its flat name and its nets, or the first refusal. The rails are the names that are global
 /// but `0`; with `top` the cards are those of the subcircuit of this name, taken as it is given, and its ports are the top's.
 pub fn flatten(
@@ -317,8 +332,7 @@ pub fn flatten(
     requires rails { AreRails rails.now }
     ensures gives { Gives result (flat.flatten deck.now rails.now (option_copied top.entry)) }
 {
-    let chosen = choose(alloc, deck, top)?;
-    refuse_excess(alloc, deck.subs(), chosen.cards)?;
+    let chosen = chosen_cards(alloc, deck, top)?;
     flat_of_chosen(alloc, deck, rails, chosen)
 }
 
@@ -334,7 +348,6 @@ pub fn flattened_text(
     requires rails { AreRails rails.now }
     ensures gives { GivesOf (λ text. IsTextOf text.items) result (flat.flatten deck.now rails.now (option_copied top.entry)) }
 {
-    let chosen = choose(alloc, deck, top)?;
-    refuse_excess(alloc, deck.subs(), chosen.cards)?;
+    let chosen = chosen_cards(alloc, deck, top)?;
     text_of_chosen(alloc, deck, rails, chosen)
 }

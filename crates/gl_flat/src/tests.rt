@@ -1,7 +1,7 @@
 ghost use Rattle.std.specs.Prelude.{IfOk};
 ghost use Rattle.gl_printed.specs.ReadDecks.{IsReadDeck};
 
-use crate::{Deck, Flat, FlatFault, Name, What, first_clash, flatten};
+use crate::{Deck, Flat, FlatFault, Name, What, first_clash, flatten, flattened_text};
 use gl_printed::read_decks_are_fine;
 use std::alloc::{AllocError, Global};
 use std::test::Fail;
@@ -72,7 +72,7 @@ fn answer(alloc: Global, bytes: &[u8], top: &[u8]) -> Result<Vec<u8>, Fail> {
     }
 }
 
-const ROWS: [Row; 17] = [
+const ROWS: [Row; 20] = [
     // an X card in an X card
     (
         b"nest\n.subckt cellb p\nm3 p n 0 0 nch w=1u\nc1 n 0 1p\n.ends\n.subckt cella q\nx1 q cellb\n.ends\nx2 top1 cella\n.end\n",
@@ -96,6 +96,24 @@ const ROWS: [Row; 17] = [
         b"t\n.subckt s a\nr1 a n 1k\n.ends\nx1 p s\nr.x1.r1 x1.n 0 1k\n",
         b"",
         b"clash r.x1.r1",
+    ),
+    // names with dots at the top
+    (
+        b"t\nr.x1.r1 x1.n 0 1k\nr2 x1.n 0 2k\n",
+        b"",
+        b"t\nr.x1.r1 x1.n 0 1k\nr2 x1.n 0 2k\n.end\n",
+    ),
+    // a device behind an X card that has the name of one before it
+    (
+        b"t\n.subckt s a\nr1 a 0 1k\n.ends\nr.x1.r1 p 0 1k\nx1 p s\n",
+        b"",
+        b"clash r.x1.r1",
+    ),
+    // and a net
+    (
+        b"t\n.subckt s a\nr1 a n 1k\n.ends\nr3 x1.n 0 2k\nx1 p s\n",
+        b"",
+        b"clash x1.n",
     ),
     // a device and a net may have one name
     (b"t\nr1 r1 0 1k\n", b"", b"t\nr1 r1 0 1k\n.end\n"),
@@ -174,6 +192,36 @@ fn flat_texts(rt: HostRuntime) -> Result<(), Fail> {
     for row in &ROWS {
         let (bytes, top, wanted) = row;
         let text = answer(rt.alloc(), bytes, top)?;
+        assert!(rt; text.as_slice() == *wanted);
+    }
+    Ok(())
+}
+
+/// The text of a deck, with the deck's own globals as rails.
+fn text(alloc: Global, deck: &Deck, top: &[u8]) -> Result<Result<Vec<u8>, FlatFault>, AllocError>
+    requires read { IsReadDeck deck.now }
+{
+    if top.is_empty() {
+        return Ok(flattened_text(alloc, deck, deck.globals(), None));
+    }
+    let name = Name::of(alloc, top)?;
+    Ok(flattened_text(alloc, deck, deck.globals(), Some(&name)))
+}
+
+/// The text of a file without a flat deck between, or the refusal.
+fn direct_answer(alloc: Global, bytes: &[u8], top: &[u8]) -> Result<Vec<u8>, Fail> {
+    let deck = read(alloc, bytes)?;
+    match text(alloc, &deck, top)? {
+        Ok(text) => Ok(text),
+        Err(fault) => refusal(alloc, &fault),
+    }
+}
+
+#[test]
+fn direct_texts(rt: HostRuntime) -> Result<(), Fail> {
+    for row in &ROWS {
+        let (bytes, top, wanted) = row;
+        let text = direct_answer(rt.alloc(), bytes, top)?;
         assert!(rt; text.as_slice() == *wanted);
     }
     Ok(())
