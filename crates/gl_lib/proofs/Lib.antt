@@ -13,3 +13,4 @@ pub mod FitLaws
 pub mod FlatLaws
 pub mod CellLaws
 pub mod BuildLaws
+pub mod SampleLaws

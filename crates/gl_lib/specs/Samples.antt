@@ -1,15 +1,15 @@
 -- A flat deck and a library on which the definitions are computed.
-use Rattle.std.specs.Prelude.{[], ◌∷◌, None, Some, codes}
-use Rattle.gl_text.specs.Decks.{Sub}
+use Rattle.std.specs.Prelude.{ℕ, List, [], ◌∷◌, None, Some, codes}
+use Rattle.gl_text.specs.Decks.{Sub, dev_at}
 use Rattle.gl_base.specs.Libraries.{Library, loose}
-use Rattle.gl_base.specs.Rows.{resistor, model, inverter_sub, cards_at_one}
+use Rattle.gl_base.specs.Rows.{resistor, transistor, model, inverter_head, inverter_sub, cards_at_one}
 use Rattle.gl_flat.specs.Numbered.{Numbered}
 
--- an inverter from `in` to `out` and a resistor; ports are `in`, the rail `vdd`, and `nc`, which stands on no device
+-- an inverter from `in` to `out` and a resistor; ports are `in`, the rail `vdd`, and `nc`, which stands on no device, as the rail `w` does
 abbrev pub sample_deck : Numbered
 sample_deck = record {
   title = [];
-  rails = codes "vdd" ∷ [];
+  rails = codes "vdd" ∷ codes "w" ∷ [];
   models = model (codes "nch") (codes "nmos") ∷ [];
   top = Some (record { name = codes "top"; ports = codes "in" ∷ codes "vdd" ∷ codes "nc" ∷ [] });
   nets = codes "out" ∷ codes "in" ∷ codes "vdd" ∷ codes "0" ∷ [];
@@ -39,4 +39,34 @@ sample_library = record {
     passed = [];
   };
   cells = record { level = 0; skip = None } ∷ record { level = 0; skip = Some (loose (codes "b")) } ∷ record { level = 0; skip = None } ∷ record { level = 1; skip = None } ∷ [];
+}
+
+-- a file that is flattened to the deck of its subcircuit `top`
+abbrev pub sample_file : List ℕ
+sample_file = codes "\n.global vdd w\n.model nch nmos\n.subckt top in vdd nc\nm1 out in vdd vdd pch\nm2 out in 0 0 nch\nr1 out 0\n.ends\n"
+
+-- a file of a library: an inverter, and a cell that is skipped
+abbrev pub inverter_file : List ℕ
+inverter_file = codes ".model pch pmos\n.subckt inv a y\nmp y a vdd vdd pch\nmn y a 0 0 nch\n.ends\n.subckt odd b\nd1 a 0 dm\n.ends\n"
+
+-- the library of that file
+abbrev pub inverter_library : Library
+inverter_library = record {
+  deck = record {
+    title = [];
+    globals = [];
+    models = model (codes "pch") (codes "pmos") ∷ [];
+    subs = record {
+      line = 2;
+      head = inverter_head;
+      cards = dev_at 3 (transistor (codes "mp") (codes "y") (codes "a") (codes "vdd") (codes "vdd") (codes "pch")) ∷ dev_at 4 (transistor (codes "mn") (codes "y") (codes "a") (codes "0") (codes "0") (codes "nch")) ∷ [];
+    } ∷ record {
+      line = 6;
+      head = record { name = codes "odd"; ports = codes "b" ∷ [] };
+      cards = dev_at 7 (record { name = codes "d1"; nodes = codes "a" ∷ codes "0" ∷ []; model = Some (codes "dm"); tail = [] }) ∷ [];
+    } ∷ [];
+    top = [];
+    passed = [];
+  };
+  cells = record { level = 0; skip = None } ∷ record { level = 0; skip = Some (loose (codes "b")) } ∷ [];
 }

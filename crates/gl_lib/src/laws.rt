@@ -1,7 +1,9 @@
 //! Laws over the definitions: each is the contract of a function that does nothing.
-ghost use Rattle.std.specs.Prelude.{◌≡◌, ◌<◌, ℕ, List, [], ◌∷◌, None, Some, Ok, Err, codes, length, map, Contains};
+ghost use Rattle.std.specs.Prelude.{◌≡◌, ◌<◌, ℕ, List, true, [], ◌∷◌, None, Some, Ok, Err, codes, length, map, Contains};
 ghost use Rattle.std.specs.List.{AllByRecursion};
 ghost use Rattle.gl_text.specs.Cards.{Device as Card, Head as Cell, global};
+ghost use Rattle.gl_text.specs.Decks.{Deck, read_deck};
+ghost use Rattle.gl_text.specs.Flattening.{Flat, flatten};
 ghost use Rattle.gl_text.specs.CellCards.{IsCellOf};
 ghost use Rattle.gl_match.specs.declared.role.Role.TheVariants.{Port, Rail};
 ghost use Rattle.gl_match.specs.Graph.{FitsInto};
@@ -9,10 +11,12 @@ ghost use Rattle.gl_base.specs.Rails.{all_rails, run_rails};
 ghost use Rattle.gl_base.specs.TypeNames.{classes_of};
 ghost use Rattle.gl_base.specs.BaseCircuit.{Source, circuit_of, types_of};
 ghost use Rattle.gl_base.specs.Patterns.{pattern_of, IsSound};
+ghost use Rattle.gl_base.specs.Libraries.{Library, read_library};
 ghost use Rattle.gl_base.specs.Rounds.{cells_at, searched, cell_pattern};
 ghost use Rattle.gl_base.specs.Keeping.{base_of, base_keeping};
+ghost use Rattle.gl_flat.specs.Numbered.{numbered};
 ghost use Rattle.gl_lib.specs.Sources.{AreSound, source_in};
-ghost use Rattle.gl_lib.specs.Samples.{sample_deck, sample_library};
+ghost use Rattle.gl_lib.specs.Samples.{sample_deck, sample_library, sample_file, inverter_file};
 ghost use Rattle.gl_printed.specs.ReadCards.{IsFine};
 ghost use Rattle.gl_printed.specs.FlatDecks.{AreRails};
 ghost use Rattle.gl_graph.specs.Built.{circuit_size};
@@ -42,7 +46,7 @@ pub fn base_rows()
       shapes = (0 ∷ 1 ∷ 0 ∷ 2 ∷ []) ∷ (0 ∷ 1 ∷ 0 ∷ 2 ∷ []) ∷ (0 ∷ 0 ∷ []) ∷ (0 ∷ 1 ∷ []) ∷ (0 ∷ 0 ∷ []) ∷ [];
       devices = record { kind = 0; nets = 0 ∷ 1 ∷ 2 ∷ 2 ∷ [] } ∷ record { kind = 1; nets = 0 ∷ 1 ∷ 3 ∷ 3 ∷ [] } ∷ record { kind = 2; nets = 0 ∷ 3 ∷ [] } ∷ [];
       nets = 4;
-      rails = Some 3 ∷ Some 2 ∷ [];
+      rails = Some 3 ∷ Some 2 ∷ None ∷ [];
       pinned = 1 ∷ 2 ∷ [];
     } }
     ensures patterns { map (cell_pattern (source_in sample_deck sample_library)) (searched (cells_at 0 sample_library)) ≡ record {
@@ -63,7 +67,7 @@ pub fn kept_base_rows()
         shapes = (0 ∷ 1 ∷ 0 ∷ 2 ∷ []) ∷ (0 ∷ 1 ∷ 0 ∷ 2 ∷ []) ∷ (0 ∷ 0 ∷ []) ∷ (0 ∷ 1 ∷ []) ∷ (0 ∷ 0 ∷ []) ∷ [];
         devices = record { kind = 0; nets = 0 ∷ 1 ∷ 2 ∷ 2 ∷ [] } ∷ record { kind = 1; nets = 0 ∷ 1 ∷ 3 ∷ 3 ∷ [] } ∷ record { kind = 2; nets = 0 ∷ 3 ∷ [] } ∷ [];
         nets = 4;
-        rails = Some 3 ∷ Some 2 ∷ [];
+        rails = Some 3 ∷ Some 2 ∷ None ∷ [];
         pinned = 1 ∷ 2 ∷ 3 ∷ 0 ∷ [];
       };
       patterns = map (cell_pattern (source_in sample_deck sample_library)) (searched (cells_at 0 sample_library));
@@ -71,4 +75,11 @@ pub fn kept_base_rows()
     ensures none_kept { base_keeping [] (source_in sample_deck sample_library) sample_library ≡ Ok (base_of (source_in sample_deck sample_library) sample_library) }
     ensures first_unknown { base_keeping (codes "out" ∷ codes "nosuch" ∷ codes "in" ∷ codes "nc" ∷ []) (source_in sample_deck sample_library) sample_library ≡ Err (codes "nosuch") }
     ensures port_on_no_device { base_keeping (codes "vdd" ∷ codes "nc" ∷ codes "nosuch" ∷ []) (source_in sample_deck sample_library) sample_library ≡ Err (codes "nc") }
+    ensures rail_on_no_device { base_keeping (codes "w" ∷ codes "nc" ∷ []) (source_in sample_deck sample_library) sample_library ≡ Err (codes "w") }
+{}
+
+/// The deck of the rows is that of a file, and circuit and patterns are made of it and of the library of another.
+pub fn sample_files_are_sound()
+    ensures deck { (deck : Deck) (flat : Flat) → read_deck true sample_file ≡ Ok deck → flatten deck deck.globals (Some (codes "top")) ≡ Ok flat → numbered flat ≡ sample_deck }
+    ensures library { (library : Library) → read_library inverter_file ≡ Ok library → AreSound sample_deck library }
 {}

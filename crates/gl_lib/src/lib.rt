@@ -17,6 +17,8 @@ mod roles;
 mod tables;
 #[cfg(test)]
 mod tests;
+#[cfg(test)]
+mod tests_kept;
 mod type_name;
 mod words;
 
@@ -25,5 +27,7 @@ pub use fault::KeepFault;
 pub use gl_card::{DevCard, Head, Letter, ModelCard, Name};
 pub use gl_cells::Library;
 pub use gl_flat::Flat;
-pub use laws::{base_rows, kept_base_rows, run_rails_are_fine, sources_are_sound};
+pub use laws::{
+    base_rows, kept_base_rows, run_rails_are_fine, sample_files_are_sound, sources_are_sound,
+};
 pub use rails::run_rails;

@@ -3,7 +3,7 @@ use gl_card::Name;
 use std::alloc::{AllocError, Global};
 
 /// Names of bytes as they stand.
-fn names(alloc: Global, texts: &[&str]) -> Result<Vec<Name>, AllocError> {
+pub fn names(alloc: Global, texts: &[&str]) -> Result<Vec<Name>, AllocError> {
     let mut names = Vec::new(alloc);
     for text in texts {
         names.push(Name::of(alloc, text.as_bytes())?)?;
