@@ -5,7 +5,7 @@ use Rattle.std.specs.List.{list_any}
 use Rattle.std.proofs.lemmas.List.Folds.{list_any-append}
 use Rattle.gl_text.specs.LogicalLines.{Fault, name_clash, same_text}
 use Rattle.gl_text.specs.Cards.{first_some, when}
-use Rattle.gl_text.specs.Flattening.{Net, FlatDevice, Bearer, device, net, net_name, device_name, path_text, bearer_name, same_path, clash, first_clash}
+use Rattle.gl_text.specs.Flattening.{Net, Bearer, device, net, net_name, path_text, same_path, clash, first_clash}
 use Rattle.gl_deck.proofs.CallLaws.{exact}
 use Rattle.gl_flat.specs.SeenNames.{has_dot, is_below, may_clash, plain_names}
 

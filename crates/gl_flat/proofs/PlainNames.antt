@@ -1,5 +1,5 @@
 -- Devices at the top whose names hold no dot: their names differ where those of the cards do.
-use Rattle.std.proofs.Common.{◌≡◌, ℕ, zero, suc, List, [], ◌∷◌, ◌++◌, Bool, true, false, cond, Option, Some, None, refl, sym, ap, ◌∙◌, subst, map, flat_map}
+use Rattle.std.proofs.Common.{◌≡◌, ℕ, zero, suc, List, [], ◌∷◌, ◌++◌, Bool, true, false, cond, Option, Some, None, refl, sym, ap, ◌∙◌, map, flat_map}
 use Rattle.std.specs.Prelude.{◌||◌}
 use Rattle.std.specs.List.{AllByRecursion}
 use Rattle.std.proofs.lemmas.Bool.{or_parts}
@@ -9,7 +9,6 @@ use Rattle.gl_text.specs.Cards.{Device, first_byte}
 use Rattle.gl_text.specs.Decks.{Body, dev_at, call_at, Sub, find_sub, is_in, has_twice}
 use Rattle.gl_text.specs.Flattening.{Net, FlatDevice, Place, Bearer, device, net, path_text, device_name, bearers, top_place, net_of, inside, devices_of, flat_devices}
 use Rattle.gl_printed.specs.ReadDecks.{AllDiffer, body_name}
-use Rattle.gl_printed.proofs.Each.{each_to}
 use Rattle.gl_printed.proofs.PickedCards.{each_flat}
 use Rattle.gl_flat.specs.SeenNames.{has_dot, is_below, plain_names}
 use Rattle.gl_flat.proofs.DotLaws.{or_true, device_dot}

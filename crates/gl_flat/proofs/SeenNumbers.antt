@@ -12,7 +12,7 @@ use Rattle.indexmap.specs.IndexMap.{insert_entry}
 use Rattle.indexmap.specs.IndexSet.{insert_key, insert_all}
 use Rattle.gl_text.specs.LogicalLines.{Fault, name_clash, same_text}
 use Rattle.gl_text.specs.Decks.{◌>>=◌, is_in}
-use Rattle.gl_text.specs.Flattening.{Net, FlatDevice, Bearer, device, net, net_name, device_name, bearers}
+use Rattle.gl_text.specs.Flattening.{Net, FlatDevice, device, net, net_name, device_name, bearers}
 use Rattle.gl_printed.proofs.Each.{each_left, each_right}
 use Rattle.gl_deck.proofs.GlobalLaws.{all_keys, keys_once}
 use Rattle.gl_flat.specs.Numbered.{NumberedDevice, nets_of, number_in, numbered_device}

@@ -1,12 +1,12 @@
-ghost use Rattle.std.specs.Prelude.{◌≡◌, None, map, flat_map, option_map, IfOk};
+ghost use Rattle.std.specs.Prelude.{◌≡◌, None, map, option_map, IfOk};
 ghost use Rattle.indexmap.specs.IndexMap.{keys, values};
 ghost use Rattle.gl_text.specs.LogicalLines.{name_clash};
-ghost use Rattle.gl_text.specs.Flattening.{DEPTH as MOST_CALLS, bearers, first_clash as first_clash_of, flat_devices, net, top_net, top_place};
+ghost use Rattle.gl_text.specs.Flattening.{DEPTH as MOST_CALLS, flat_devices, top_place};
 ghost use Rattle.gl_printed.specs.ReadDecks.{AllDiffer, body_name};
 ghost use Rattle.gl_deck.specs.Bodies.{names_of};
 ghost use Rattle.gl_flat.specs.SeenNames.{PlainDiffer};
 ghost use Rattle.gl_flat.specs.Steps.{clash_in};
-ghost use Rattle.gl_flat.specs.TopNames.{top_names};
+ghost use Rattle.gl_flat.specs.TopNames.{clash_among as clash_of};
 ghost use Rattle.gl_flat.specs.Ways.{IsScene, PortsDiffer};
 
 use crate::clash::refuse_clash;
@@ -25,7 +25,7 @@ fn clash_among<'a>(
     devices: &[Reached<'a>],
 ) -> Result<Option<Name>, AllocError>
     requires plain { PlainDiffer devices.now }
-    ensures clash { IfOk result (λ name. option_map name_clash name ≡ first_clash_of (map (λ n. net (top_net n)) (top_names scene.now)) (flat_map bearers devices.now)) }
+    ensures clash { IfOk result (λ name. option_map name_clash name ≡ clash_of scene.now devices.now) }
 {
     match refuse_clash(alloc, scene, devices) {
         Ok(()) => Ok(None),
@@ -42,7 +42,7 @@ fn clash_of_cell<'a>(
 ) -> Result<Option<Name>, AllocError>
     requires scene { IsScene scene.now }
     requires names { AllDiffer (map body_name cell.now.cards) }
-    ensures clash { IfOk result (λ name. option_map name_clash name ≡ first_clash_of (map (λ n. net (top_net n)) (top_names scene.now)) (flat_map bearers (flat_devices scene.now.rails.now.keys (values scene.now.subs.now) MOST_CALLS top_place cell.now.cards))) }
+    ensures clash { IfOk result (λ name. option_map name_clash name ≡ clash_of scene.now (flat_devices scene.now.rails.now.keys (values scene.now.subs.now) MOST_CALLS top_place cell.now.cards)) }
 {
     let devices = expanded(alloc, scene, cell.cards())?;
     clash_among(alloc, scene, &devices)

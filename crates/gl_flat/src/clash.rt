@@ -1,8 +1,7 @@
-ghost use Rattle.std.specs.Prelude.{◌≡◌, None, map, flat_map, OnOk, IfErr};
-ghost use Rattle.gl_text.specs.Flattening.{bearers, first_clash, net, top_net};
+ghost use Rattle.std.specs.Prelude.{◌≡◌, None, OnOk, IfErr};
 ghost use Rattle.gl_flat.specs.Refusals.{IsFound, fault_of};
 ghost use Rattle.gl_flat.specs.SeenNames.{PlainDiffer};
-ghost use Rattle.gl_flat.specs.TopNames.{top_names};
+ghost use Rattle.gl_flat.specs.TopNames.{clash_among as clash_of};
 
 use crate::FlatFault;
 use crate::reached::Reached;
@@ -18,8 +17,8 @@ pub fn refuse_clash<'a>(
     devices: &[Reached<'a>],
 ) -> Result<(), FlatFault>
     requires plain { PlainDiffer devices.now }
-    ensures ok { OnOk result (first_clash (map (λ n. net (top_net n)) (top_names scene.now)) (flat_map bearers devices.now) ≡ None) }
-    ensures refused { IfErr result (λ fault. IsFound (fault_of fault) (first_clash (map (λ n. net (top_net n)) (top_names scene.now)) (flat_map bearers devices.now))) }
+    ensures ok { OnOk result (clash_of scene.now devices.now ≡ None) }
+    ensures refused { IfErr result (λ fault. IsFound (fault_of fault) (clash_of scene.now devices.now)) }
 {
     let mut seen = Seen::behind(alloc, scene);
     seen.add_all(alloc, devices)?;

@@ -3,7 +3,7 @@ ghost use Rattle.std.specs.Option.{option_copied};
 ghost use Rattle.indexmap.specs.IndexMap.{keys, values};
 ghost use Rattle.gl_text.specs.Decks.{once};
 ghost use Rattle.gl_text.specs.Flattening as flat;
-ghost use Rattle.gl_text.specs.Flattening.{bearers, first_clash, net, top_net, top_ports};
+ghost use Rattle.gl_text.specs.Flattening.{bearers, top_ports};
 ghost use Rattle.gl_printed.specs.FlatDecks.{AreRails};
 ghost use Rattle.gl_printed.specs.ReadDecks.{AllDiffer, IsReadDeck, body_name};
 ghost use Rattle.gl_deck.specs.Bodies.{bodies_value, names_of};
@@ -13,7 +13,7 @@ ghost use Rattle.gl_flat.specs.Numbered.{nets_of, numbered, numbered_device};
 ghost use Rattle.gl_flat.specs.Refusals.{Gives, GivesOf, IsFound, IsRefusal, IsTextOf, fault_of};
 ghost use Rattle.gl_flat.specs.SeenNames.{PlainDiffer};
 ghost use Rattle.gl_flat.specs.Steps.{AreShort, all_devices, devices_in, excess_in, flat_with, judged as judged_by, text_fault};
-ghost use Rattle.gl_flat.specs.TopNames.{top_names};
+ghost use Rattle.gl_flat.specs.TopNames.{clash_among as clash_of};
 ghost use Rattle.gl_flat.specs.Ways.{IsScene};
 
 use crate::chosen::{Chosen, choose};
@@ -114,10 +114,10 @@ fn numbered_nets<'a>(
 ) -> Result<(Vec<Name>, Vec<FlatDevice>), FlatFault>
     requires few { length (nets_of devices.now) < 2 ^ 32 }
     requires plain { PlainDiffer devices.now }
-    ensures fits { OnOk result (first_clash (map (λ n. net (top_net n)) (top_names scene.now)) (flat_map bearers devices.now) ≡ None) }
+    ensures fits { OnOk result (clash_of scene.now devices.now ≡ None) }
     ensures nets { IfOk result (λ parts. parts.0.items ≡ nets_of devices.now) }
     ensures devices { IfOk result (λ parts. parts.1.items ≡ map (numbered_device (nets_of devices.now)) devices.now) }
-    ensures refused { IfErr result (λ fault. IsFound (fault_of fault) (first_clash (map (λ n. net (top_net n)) (top_names scene.now)) (flat_map bearers devices.now))) }
+    ensures refused { IfErr result (λ fault. IsFound (fault_of fault) (clash_of scene.now devices.now)) }
 {
     let mut seen = Seen::behind(alloc, scene);
     let numbered = number_devices(alloc, &mut seen, devices)?;
@@ -135,9 +135,9 @@ fn flat_of<'a>(
 ) -> Result<Flat, FlatFault>
     requires few { length (nets_of devices.now) < 2 ^ 32 }
     requires plain { PlainDiffer devices.now }
-    ensures fits { OnOk result (first_clash (map (λ n. net (top_net n)) (top_names scene.now)) (flat_map bearers devices.now) ≡ None) }
+    ensures fits { OnOk result (clash_of scene.now devices.now ≡ None) }
     ensures flat { IfOk result (λ f. f ≡ numbered (flat_with deck.now rails.now (option_copied head.entry) devices.now)) }
-    ensures refused { IfErr result (λ fault. IsFound (fault_of fault) (first_clash (map (λ n. net (top_net n)) (top_names scene.now)) (flat_map bearers devices.now))) }
+    ensures refused { IfErr result (λ fault. IsFound (fault_of fault) (clash_of scene.now devices.now)) }
 {
     let (nets, devices) = numbered_nets(alloc, scene, devices)?;
     Ok(Flat {
@@ -161,9 +161,9 @@ fn text_of<'a>(
     devices: &[Reached<'a>],
 ) -> Result<Vec<u8>, FlatFault>
     requires plain { PlainDiffer devices.now }
-    ensures fits { OnOk result (first_clash (map (λ n. net (top_net n)) (top_names scene.now)) (flat_map bearers devices.now) ≡ None) }
+    ensures fits { OnOk result (clash_of scene.now devices.now ≡ None) }
     ensures text { IfOk result (λ text. text.items ≡ flat.flat_text (flat_with deck.now rails.now (option_copied head.entry) devices.now)) }
-    ensures refused { IfErr result (λ fault. IsFound (fault_of fault) (first_clash (map (λ n. net (top_net n)) (top_names scene.now)) (flat_map bearers devices.now))) }
+    ensures refused { IfErr result (λ fault. IsFound (fault_of fault) (clash_of scene.now devices.now)) }
 {
     refuse_clash(alloc, scene, devices)?;
     let mut text = Vec::new(alloc);

@@ -1,4 +1,4 @@
-use Rattle.std.proofs.Common.{◌≡◌, ◌∙◌, ap, sym, subst, map, filter, flat_map}
+use Rattle.std.proofs.Common.{◌∙◌, ap, sym, subst, map, filter, flat_map}
 use Rattle.gl_text.specs.Decks.{has_twice}
 use Rattle.gl_text.specs.Flattening.{bearers, net, top_net}
 use Rattle.gl_printed.specs.ReadDecks.{AllDiffer}

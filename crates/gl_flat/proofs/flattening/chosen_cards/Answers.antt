@@ -1,5 +1,4 @@
-use Rattle.std.proofs.Common.{◌∙◌, ap, sym, subst, List, ℕ}
-use Rattle.std.specs.Prelude.{IfErr}
+use Rattle.std.proofs.Common.{◌∙◌, ap, sym, subst, List}
 use Rattle.std.specs.Option.{option_copied}
 use Rattle.gl_text.specs.Decks.{Sub}
 use Rattle.gl_deck.specs.Bodies.{bodies_value}

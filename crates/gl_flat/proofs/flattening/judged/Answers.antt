@@ -7,7 +7,6 @@ use Rattle.gl_flat.specs.Steps.{flat_with, text_fault, checked}
 use Rattle.gl_flat.specs.TopNames.{top_names}
 use Rattle.gl_flat.proofs.BoundLaws.{nets_fit}
 use Rattle.gl_flat.proofs.ClashLaws.{clash_same}
-use Rattle.gl_flat.proofs.SeenLaws.{passed_on}
 use Rattle.gl_flat.proofs.StepLaws.{short_text, clash_decides}
 use Rattle.gl_flat.proofs.flattening.judged.Goals as goal
 

@@ -1,4 +1,4 @@
-use Rattle.std.proofs.Common.{◌≡◌, ◌<◌, ◌^◌, ◌∙◌, ap, sym, subst, ℕ, List, length, map, flat_map, Ok}
+use Rattle.std.proofs.Common.{◌≡◌, ◌<◌, ◌^◌, ◌∙◌, ap, sym, subst, ℕ, List, length, map, flat_map}
 use Rattle.indexmap.specs.IndexSet.{insert_all}
 use Rattle.gl_text.specs.LogicalLines.{same_text}
 use Rattle.gl_text.specs.Flattening.{FlatDevice, bearers, net_name}

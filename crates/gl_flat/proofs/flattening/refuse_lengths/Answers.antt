@@ -6,7 +6,7 @@ use Rattle.gl_flat.specs.Refusals.{fault_of}
 use Rattle.gl_flat.specs.Steps.{flat_with, text_fault, clash_in}
 use Rattle.gl_flat.proofs.BoundLaws.{names_countable}
 use Rattle.gl_flat.proofs.SeenLaws.{passed_on}
-use Rattle.gl_flat.proofs.StepLaws.{short_text, found_exact, first_refuses, second_refuses}
+use Rattle.gl_flat.proofs.StepLaws.{short_text, found_exact, first_refuses}
 use Rattle.gl_flat.proofs.flattening.refuse_lengths.Goals as goal
 
 pub refuse_long-requires : goal.refuse_long-requires
