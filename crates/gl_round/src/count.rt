@@ -1,4 +1,4 @@
-ghost use Rattle.std.specs.Prelude.{◌≡◌, ◌+◌, ◌<◌, ◌^◌, length, List, IfSome, true};
+ghost use Rattle.std.specs.Prelude.{◌≡◌, ◌+◌, ◌≤◌, ◌^◌, length, nat_lt, List, MatchOption};
 ghost use Rattle.std.specs.List.{sum_by};
 ghost use Rattle.gl_match.specs.Listing.{Instance as Item};
 
@@ -6,7 +6,7 @@ use gl_legal::CellList;
 
 /// Whether numbers from a first one are enough for the instances of some lists, with room for one more.
 pub fn has_numbers(lists: &[CellList], first: u32) -> bool
-    ensures enough { result ≡ true → first + sum_by (λ (list : List Item). length list) lists.now < 2 ^ 32 }
+    ensures enough { result ≡ nat_lt (first + sum_by (λ (list : List Item). length list) lists.now) (2 ^ 32) }
 {
     let mut next = first;
     for list in lists {
@@ -20,7 +20,7 @@ pub fn has_numbers(lists: &[CellList], first: u32) -> bool
 
 /// The number behind so many, if there is one.
 fn next_behind(next: u32, count: usize) -> Option<u32>
-    ensures sum { IfSome result (λ behind. behind ≡ next + count) }
+    ensures sum { MatchOption result (2 ^ 32 ≤ next + count) (λ behind. behind ≡ next + count) }
 {
     let count = u32::try_from(count).ok()?;
     next.checked_add(count)
