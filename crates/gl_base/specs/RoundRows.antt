@@ -1,5 +1,5 @@
 -- The report of a deck and a library, computed by trying all maps: on small rows, what the definitions of a round say can be read off.
-use Rattle.std.specs.Prelude.{◌≡◌, not, ℕ, zero, suc, ◌==◌, ◌&&◌, ◌||◌, Bool, true, false, List, [], ◌∷◌, length, map, filter, flat_map, fold, IsOkAnd, codes, if◌then◌else◌, ◌+◌}
+use Rattle.std.specs.Prelude.{◌≡◌, not, ℕ, zero, suc, ◌==◌, ◌&&◌, ◌||◌, Bool, true, false, List, [], ◌∷◌, ◌++◌, length, map, filter, flat_map, fold, IsOkAnd, codes, if◌then◌else◌, ◌+◌}
 use Rattle.std.specs.List.{range_with_len, list_any, list_all}
 use Rattle.std.specs.Ordering.{is_lt, eq_by_cmp}
 use Rattle.gl_text.specs.Decks.{Sub, Deck, read_deck}
@@ -148,3 +148,11 @@ parallel = codes ".subckt par p q\nra p q\nrb p q\n.ends\n"
 
 abbrev pub vdd_rail : List ℕ
 vdd_rail = codes ".global vdd\n"
+
+-- a deck of one NAND, whose inner net is `x`
+abbrev pub nand_deck : List ℕ
+nand_deck = codes "n\n" ++ models ++ codes "m1 y a vdd vdd pch\nm2 y b vdd vdd pch\nm3 y a x 0 nch\nm4 x b 0 0 nch\n"
+
+-- a deck of two resistors, whose global `w` stands on no device
+abbrev pub resistor_deck : List ℕ
+resistor_deck = codes "t\n.global w\nr1 a b 1\nr2 b 0 1\n"

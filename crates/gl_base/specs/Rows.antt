@@ -121,3 +121,10 @@ pass_gate_twice = record {
 -- an inverter on devices 0 and 1
 abbrev pub inverter_once : List Instance
 inverter_once = record { key = record { set = 0 ∷ 1 ∷ []; binding = 1 ∷ 0 ∷ [] }; least = record { dev = 0; turn = 0 } ∷ record { dev = 1; turn = 0 } ∷ [] } ∷ []
+
+-- a NAND on devices 0 to 3
+abbrev pub nand_once : List Instance
+nand_once = record {
+  key = record { set = 0 ∷ 1 ∷ 2 ∷ 3 ∷ []; binding = 1 ∷ 3 ∷ 0 ∷ [] };
+  least = record { dev = 0; turn = 0 } ∷ record { dev = 1; turn = 0 } ∷ record { dev = 2; turn = 0 } ∷ record { dev = 3; turn = 0 } ∷ [];
+} ∷ []
