@@ -337,7 +337,7 @@ pub fn flatten(
 }
 
 /// The text of the flat deck, as `Flat::print` of what `flatten` gives would append it, or the first refusal. No flat deck is
-/// made on the way: nothing is copied, and no net is numbered.
+/// made on the way: no card is copied, and no net is numbered.
 pub fn flattened_text(
     alloc: Global,
     deck: &Deck,
