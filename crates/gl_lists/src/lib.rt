@@ -1,0 +1,2 @@
+//! Laws on lists, tests and orders that stand on std alone, each once.
+#![tactic(auto)]
