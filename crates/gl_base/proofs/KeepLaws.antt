@@ -5,7 +5,8 @@ use Rattle.std.specs.List.{cons_option}
 use Rattle.std.proofs.lemmas.List.Elements.{All-cons, All-nil}
 use Rattle.std.proofs.lemmas.List.{append-nil}
 use Rattle.std.proofs.lemmas.Bool.{false_from_ne_true}
-use Rattle.gl_match.proofs.Lists.{Once, from_filter, once_filter}
+use Rattle.gl_lists.proofs.Once.{Once, once_filter}
+use Rattle.gl_lists.proofs.Membership.{from_filter}
 use Rattle.gl_text.specs.LogicalLines.{same_text}
 use Rattle.gl_text.specs.Cards.{Device as Card}
 use Rattle.gl_text.specs.Decks.{is_in, once}
@@ -13,8 +14,8 @@ use Rattle.gl_base.specs.BaseCircuit.{Source, nets_of, circuit_of}
 use Rattle.gl_base.specs.Patterns.{Base}
 use Rattle.gl_base.specs.Libraries.{Library}
 use Rattle.gl_base.specs.Keeping.{unknown_keep, IsFirstUnknown, base_of, base_keeping}
-use Rattle.gl_base.proofs.OnceLaws.{there, found, position_there, position_back, no_more}
-use Rattle.gl_base.proofs.TextLaws.{exact, itself, each_once}
+use Rattle.gl_lists.proofs.EachOnce.{there, found, position_there, position_back, no_more}
+use Rattle.gl_text.proofs.Names.{exact, itself, each_once}
 
 -- ---- known and unknown names
 

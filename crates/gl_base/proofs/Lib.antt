@@ -2,7 +2,5 @@ pub mod OnceLaws
 pub mod TextLaws
 pub mod TypeLaws
 pub mod KeepLaws
-pub mod RowLaws
-pub mod StemRowLaws
-pub mod ListedRowLaws
-pub mod ReportRowLaws
+pub mod StemLaws
+pub mod TriedLaws

@@ -1,5 +1,6 @@
 -- Names that a caller keeps: each pins its net, so that no cell takes it as an inner net. This project's own.
-use Rattle.std.specs.Prelude.{◌≡◌, not, ℕ, List, ◌∷◌, ◌++◌, map, find, All, Contains, Option, Some, None, Result, Ok, Err}
+use Rattle.std.specs.Prelude.{◌≡◌, not, ℕ, List, ◌∷◌, ◌++◌, map, find, All, Contains, Option, Result}
+use Rattle.gl_fault.specs.Refusals.{or_else}
 use Rattle.gl_text.specs.Decks.{is_in}
 use Rattle.gl_base.specs.BaseCircuit.{Source, nets_of, circuit_of}
 use Rattle.gl_base.specs.Patterns.{Base}
@@ -33,11 +34,6 @@ pub record IsFirstUnknown (keep : List (List ℕ)) (s : Source) (name : List ℕ
 abbrev pub base_of : Source → Library → Base
 base_of s library = record { circuit = circuit_of s; patterns = map (cell_pattern s) (searched (cells_at 0 library)) }
 
--- circuit and patterns, unless a name is unknown
-abbrev pub unless_unknown : Option (List ℕ) → Base → Result Base (List ℕ)
-unless_unknown None base = Ok base
-unless_unknown (Some name) base = Err name
-
 -- circuit and patterns of a source with kept names, or else the first of these that is no net of the devices
 abbrev pub base_keeping : List (List ℕ) → Source → Library → Result Base (List ℕ)
-base_keeping keep s library = unless_unknown (unknown_keep keep s) (base_of (keeping keep s) library)
+base_keeping keep s library = or_else (unknown_keep keep s) (base_of (keeping keep s) library)

@@ -6,8 +6,7 @@ pub mod Reports
 pub mod Libraries
 pub mod Stems
 pub mod Rounds
+pub mod Tried
 pub mod Keeping
 pub mod RoundReports
-pub mod Rows
 pub mod Lifting
-pub mod RoundRows

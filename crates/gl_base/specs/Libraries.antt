@@ -1,8 +1,9 @@
 -- A library of cells: the level of a cell, which cells are skipped, and what refuses a library. This project's own.
-use Rattle.std.specs.Prelude.{ℕ, zero, suc, ◌+◌, max, not, nat_lt, Bool, true, false, List, [], ◌∷◌, ◌++◌, length, map, flat_map, find, Option, Some, None, option_map, is_some, Result, Ok, Err, slice_get, codes}
+use Rattle.gl_fault.specs.Refusals.{first_some, when, or_else}
+use Rattle.std.specs.Prelude.{ℕ, zero, suc, ◌+◌, max, not, nat_lt, Bool, false, List, [], ◌∷◌, length, map, flat_map, find, Option, Some, None, option_map, is_some, Result, Ok, Err, slice_get}
 use Rattle.gl_text.specs.LogicalLines.{Fault, name_clash}
 use Rattle.gl_text.specs.Decks.{Body, dev_at, call_at, Sub, Deck, is_in, find_sub, callees, read_deck}
-use Rattle.gl_text.specs.Flattening.{DEPTH, Bearer, net, bearers, count, one, first_clash, flat_devices, line_of_body, top_net, top_place}
+use Rattle.gl_text.specs.Flattening.{DEPTH, clash_in, count, one, flat_devices, line_of_body, top_place}
 
 -- ---- levels
 
@@ -111,17 +112,6 @@ pub data Cause : Type 0 where
   cell_limit : List ℕ → Limit → ℕ → Cause
   cell_clash : List ℕ → List ℕ → Cause
 
--- the first cause, if there is one
-abbrev pub first_cause : List (Option Cause) → Option Cause
-first_cause [] = None
-first_cause (None ∷ others) = first_cause others
-first_cause (Some cause ∷ others) = Some cause
-
--- a cause, where a test says so
-abbrev pub cause_if : Bool → Cause → Option Cause
-cause_if true cause = Some cause
-cause_if false cause = None
-
 -- the first device or X card at the top
 abbrev pub top_cause : List Body → Option Cause
 top_cause [] = None
@@ -133,31 +123,27 @@ cells_cause subs = option_map (λ (cell : Sub). cell_limit cell.head.name cells 
 
 -- a cell with too many cards
 abbrev pub devices_cause : Sub → Option Cause
-devices_cause cell = cause_if (nat_lt CELL_CARDS (length cell.cards)) (cell_limit cell.head.name devices (length cell.cards))
+devices_cause cell = when (nat_lt CELL_CARDS (length cell.cards)) (cell_limit cell.head.name devices (length cell.cards))
 
 -- a cell with too many ports
 abbrev pub ports_cause : Sub → Option Cause
-ports_cause cell = cause_if (nat_lt PORTS (length cell.head.ports)) (cell_limit cell.head.name ports (length cell.head.ports))
+ports_cause cell = when (nat_lt PORTS (length cell.head.ports)) (cell_limit cell.head.name ports (length cell.head.ports))
 
 -- a cell of too great a level
 abbrev pub level_cause : List ℕ → ℕ → Option Cause
-level_cause name number = cause_if (nat_lt LEVEL number) (cell_limit name level number)
+level_cause name number = when (nat_lt LEVEL number) (cell_limit name level number)
 
 -- the cards below a cell, itself not counted
 abbrev pub flat_cause : List Sub → Sub → Option Cause
-flat_cause subs cell = cause_if (nat_lt CELL_EXPANDED (count one subs cell.cards)) (cell_limit cell.head.name flat (CELL_EXPANDED + 1))
+flat_cause subs cell = when (nat_lt CELL_EXPANDED (count one subs cell.cards)) (cell_limit cell.head.name flat (CELL_EXPANDED + 1))
 
 -- the first limit that a cell breaks
 abbrev pub limit_cause : List Sub → Sub → Option Cause
-limit_cause subs cell = first_cause (devices_cause cell ∷ ports_cause cell ∷ level_cause cell.head.name (level_of subs cell) ∷ flat_cause subs cell ∷ [])
-
--- of a cell that is flattened as a top: rails and top ports, then each device with its nets
-abbrev pub cell_bearers : List (List ℕ) → List Sub → Sub → List Bearer
-cell_bearers rails subs cell = flat_map bearers (flat_devices rails subs DEPTH top_place cell.cards)
+limit_cause subs cell = first_some (devices_cause cell ∷ ports_cause cell ∷ level_cause cell.head.name (level_of subs cell) ∷ flat_cause subs cell ∷ [])
 
 -- the first name that two rails or ports, nets or devices of a cell have, where it is flattened as a top
-abbrev pub clash_in : List (List ℕ) → List Sub → Sub → Option Fault
-clash_in rails subs cell = first_clash (map (λ name. net (top_net name)) (codes "0" ∷ rails ++ cell.head.ports)) (cell_bearers rails subs cell)
+abbrev pub clash_of_cell : List (List ℕ) → List Sub → Sub → Option Fault
+clash_of_cell rails subs cell = clash_in rails cell.head.ports (flat_devices rails subs DEPTH top_place cell.cards)
 
 -- a clash of flat names, said of a cell
 abbrev pub clash_of : List ℕ → Fault → Cause
@@ -166,13 +152,13 @@ clash_of cell fault = refused fault
 
 -- the clash of a cell
 abbrev pub clash_cause : List (List ℕ) → List Sub → Sub → Option Cause
-clash_cause rails subs cell = option_map (clash_of cell.head.name) (clash_in rails subs cell)
+clash_cause rails subs cell = option_map (clash_of cell.head.name) (clash_of_cell rails subs cell)
 
 -- the first refusal of a library whose deck is read
 abbrev pub library_cause : Deck → Option Cause
-library_cause deck = first_cause (top_cause deck.top ∷ cells_cause deck.subs
-    ∷ first_cause (map (limit_cause deck.subs) deck.subs)
-    ∷ first_cause (map (clash_cause deck.globals deck.subs) deck.subs) ∷ [])
+library_cause deck = first_some (top_cause deck.top ∷ cells_cause deck.subs
+    ∷ first_some (map (limit_cause deck.subs) deck.subs)
+    ∷ first_some (map (clash_cause deck.globals deck.subs) deck.subs) ∷ [])
 
 -- ---- a library
 
@@ -194,14 +180,9 @@ cell_of subs cell = record { level = level_of subs cell; skip = skip_of subs cel
 abbrev pub library_of : Deck → Library
 library_of deck = record { deck = deck; cells = map (cell_of deck.subs) deck.subs }
 
--- a value, unless there is a cause
-abbrev pub unless : {A : Type 0} → Option Cause → A → Result A Cause
-unless None value = Ok value
-unless (Some cause) value = Err cause
-
 -- the library of a deck that was read, or the first refusal
 abbrev pub checked : Result Deck Fault → Result Library Cause
-checked (Ok deck) = unless (library_cause deck) (library_of deck)
+checked (Ok deck) = or_else (library_cause deck) (library_of deck)
 checked (Err fault) = Err (refused fault)
 
 -- the library of a file without a title, or the first refusal

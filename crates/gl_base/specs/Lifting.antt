@@ -1,5 +1,6 @@
 -- What the job `lift` writes of a deck and a library: the report of one round over the searched cells of level 0. This project's own.
-use Rattle.std.specs.Prelude.{◌≡◌, ℕ, List, length, map, flat_map, filter_map, zip, Option, Some, None, Result, Ok, Err}
+use Rattle.std.specs.Prelude.{◌≡◌, ℕ, List, length, map, flat_map, filter_map, zip, Option, None, Result, Ok, Err, option_map}
+use Rattle.gl_fault.specs.Refusals.{or_else}
 use Rattle.gl_text.specs.LogicalLines.{Fault}
 use Rattle.gl_text.specs.Decks.{Sub, Deck}
 use Rattle.gl_text.specs.Flattening.{Flat, device_name, flatten}
@@ -24,14 +25,9 @@ pub data LibraryCause : Type 0 where
 abbrev pub first_call : Deck → Option ℕ
 first_call deck = earliest (flat_map (λ (s : Sub). filter_map call_line s.cards) deck.subs)
 
--- a library, unless there is a line of an X card
-abbrev pub unless_call : Option ℕ → Library → Result Library LibraryCause
-unless_call None library = Ok library
-unless_call (Some line) library = Err (not_yet line)
-
 -- a library that was read, if it has no X card
 abbrev pub without_calls : Result Library Cause → Result Library LibraryCause
-without_calls (Ok library) = unless_call (first_call library.deck) library
+without_calls (Ok library) = or_else (option_map not_yet (first_call library.deck)) library
 without_calls (Err cause) = Err (refused cause)
 
 -- the library of a file without a title, if it has no X card

@@ -1,6 +1,6 @@
 -- The pattern of a cell. This project's own.
 use Rattle.std.specs.Prelude.{ℕ, ◌≤◌, List, length, map, flat_map, position, Option, Some, None, All}
-use Rattle.gl_text.specs.LogicalLines.{same_text}
+use Rattle.gl_text.specs.LogicalLines.{FILE, same_text}
 use Rattle.gl_text.specs.Cards.{Device as Card, Head, IsDeviceCard}
 use Rattle.gl_text.specs.CellCards.{places_count}
 use Rattle.gl_match.specs.declared.role.Role.{Role}
@@ -36,6 +36,6 @@ pub record Base : Type 0 where
 pub record IsSound (s : Source) : Type 0 where
   pub deck_cards : All IsDeviceCard s.devices
   pub rails_differ : AreRails s.rails
-  pub deck_places : places_count s.devices ≤ 67108864
-  pub cell_places : places_count (flat_map (λ cards. cards) s.cells) ≤ 67108864
+  pub deck_places : places_count s.devices ≤ FILE
+  pub cell_places : places_count (flat_map (λ cards. cards) s.cells) ≤ FILE
   pub few_rails : length s.rails ≤ 134217728

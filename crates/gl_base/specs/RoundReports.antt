@@ -2,9 +2,7 @@
 use Rattle.std.specs.Prelude.{ℕ, not, List, [], ◌∷◌, ◌++◌, length, map, filter, flat_map, zip, codes, Option, Some, None}
 use Rattle.std.specs.List.{count_by, enumerate_from, range_with_len}
 use Rattle.std.specs.Fmt.{decimal}
-use Rattle.gl_text.specs.Cards.{Device as Card}
-use Rattle.gl_text.specs.Decks.{Sub}
-use Rattle.gl_text.specs.CellCards.{devices_in}
+use Rattle.gl_text.specs.Decks.{Body, dev_at, call_at, Sub}
 use Rattle.gl_match.specs.declared.spot.Spot.{Spot}
 use Rattle.gl_match.specs.declared.role.Pick.{Pick}
 use Rattle.gl_match.specs.declared.role.Pick.TheVariants.{Taken, Over}
@@ -44,9 +42,14 @@ fate_words stem (Over number) = codes "over" ∷ instance_name stem number ∷ [
 abbrev pub port_words : List (List ℕ) → Sub → Instance → List (List ℕ)
 port_words nets cell i = parts cell.head.ports (map (name_at nets) i.key.binding)
 
--- each device of a cell with its image under the least map
+-- the name of a card
+abbrev pub card_name : Body → List ℕ
+card_name (dev_at line d) = d.name
+card_name (call_at line c) = c.name
+
+-- each card of a cell with its image under the least map
 abbrev pub image_words : List (List ℕ) → Sub → Instance → List (List ℕ)
-image_words devices cell i = parts (map (λ (d : Card). d.name) (devices_in cell.cards)) (map (λ (s : Spot). name_at devices s.dev) i.least)
+image_words devices cell i = parts (map card_name cell.cards) (map (λ (s : Spot). name_at devices s.dev) i.least)
 
 -- an instance with its number and its pick
 abbrev pub found_words : RunNames → List (List ℕ) → Sub → ℕ × (Instance × Pick) → List (List ℕ)

@@ -1,5 +1,6 @@
 -- The stem of the names of chosen instances. This project's own.
-use Rattle.std.specs.Prelude.{◌≡◌, ℕ, ◌≤◌, List, ◌++◌, map, replicate, codes, All}
+use Rattle.std.specs.Prelude.{◌≡◌, ℕ, zero, suc, ◌+◌, ◌≤◌, ◌==◌, ◌&&◌, ◌||◌, Bool, true, false, List, [], ◌∷◌, ◌++◌, map, replicate, codes, if◌then◌else◌, All}
+use Rattle.std.specs.List.{list_any}
 use Rattle.gl_text.specs.Cards.{Device as Card}
 use Rattle.gl_text.specs.Flattening.{Flat, flat_card, top_ports}
 use Rattle.gl_base.specs.Rails.{all_rails}
@@ -27,3 +28,25 @@ pub record IsStem (names : List (List ℕ)) (stem : List ℕ) : Type 0 where
 -- the names that devices, nets, rails and the top's ports of a flat deck have
 abbrev pub names_in : Flat → List (List ℕ)
 names_in f = let cards = map flat_card f.devices in map (λ (c : Card). c.name) cards ++ nets_of cards ++ all_rails f.rails ++ top_ports f.top
+
+-- ---- computed
+
+-- a text stands at the front of another
+abbrev pub is_front : List ℕ → List ℕ → Bool
+is_front [] whole = true
+is_front (a ∷ rest) [] = false
+is_front (a ∷ rest) (b ∷ bs) = (a == b) && is_front rest bs
+
+-- a text stands somewhere in another
+abbrev pub stands_in : List ℕ → List ℕ → Bool
+stands_in part [] = is_front part []
+stands_in part (b ∷ bs) = is_front part (b ∷ bs) || stands_in part bs
+
+-- the first stem in no name, from some underscores on; at most so many more are tried
+abbrev pub stem_from : List (List ℕ) → ℕ → ℕ → List ℕ
+stem_from names zero underscores = stem_with underscores
+stem_from names (suc more) underscores = if list_any (stands_in (stem_with underscores)) names then stem_from names more (underscores + 1) else stem_with underscores
+
+-- the first stem in no name, from no underscore to nine
+abbrev pub stem_of : List (List ℕ) → List ℕ
+stem_of names = stem_from names 9 0

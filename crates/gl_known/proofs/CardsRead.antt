@@ -1,28 +1,15 @@
--- A card that was read: a device has the nodes that its letter demands, and no card is larger than its text.
-use Rattle.std.proofs.Common.{◌≡◌, ◌≤◌, ◌<◌, ◌+◌, ℕ, zero, suc, List, [], ◌∷◌, ◌++◌, length, take, drop, map, ltb, Bool, true, false, Option, Some, None, Ok, refl, sym, ap, ap₂, ◌∙◌, subst, arith}
-use Rattle.std.specs.Prelude.{option_to_list}
-use Rattle.std.specs.List.{AllByRecursion}
-use Rattle.std.proofs.lemmas.List.{length-append, length-drop, length-take}
+-- A card that was read is no larger than its text.
+use Rattle.gl_fault.proofs.FirstLaws.{none_of, when_none}
+use Rattle.gl_fault.specs.Refusals.{first_some, when}
+use Rattle.std.proofs.Common.{◌≡◌, ◌≤◌, ◌+◌, ℕ, List, [], ◌∷◌, length, take, drop, map, ltb, None, arith}
+use Rattle.std.proofs.lemmas.List.{length-drop, length-take}
 use Rattle.std.proofs.lemmas.Bool.{ltb-false}
-use Rattle.gl_text.specs.LogicalLines.{NAME, Fault, long_name, unknown_card, short_card, control_block, Line, fold_byte, fields_of, first_field}
-use Rattle.gl_text.specs.Cards.{Card, dev, call, model, subckt, global, passed, Kind, device, caller, modelling, opening, closing, globals, word_in, dot_words, by_byte, kinds, kind_of, needs, names_of, tail_at, all_fields, card_by, card_of, front, but_last, first_byte, first_some, when, is_unknown, is_control, no_card, no_card_by, or_else, IsDeviceCard}
-use Rattle.gl_known.proofs.Fields.{fields_begin, all_fields_few}
-use Rattle.gl_known.proofs.CardKinds.{Right, NoDevice, dot_is_none, kind_is_right, letter_stays, device_begins}
+use Rattle.gl_text.specs.LogicalLines.{NAME, long_name, unknown_card, short_card, control_block, Line, fold_byte, fields_of, first_field}
+use Rattle.gl_text.specs.Cards.{Card, dev, call, model, subckt, global, passed, Kind, device, caller, modelling, opening, closing, globals, word_in, dot_words, kind_of, needs, names_of, tail_at, all_fields, card_by, card_of, but_last, first_byte, is_unknown, is_control, no_card, no_card_by}
+use Rattle.gl_known.proofs.Fields.{all_fields_few}
+use Rattle.gl_known.proofs.CardKinds.{Right, dot_is_none, kind_is_right}
 
 -- ---- what was not refused
-
-pub some_none : {A : Type 0} (o : Option Fault) (x y : A) → or_else o x ≡ Ok y → (o ≡ None) × (x ≡ y)
-some_none None x y h = (refl, cc)
-some_none (Some f) x y h = absurd cc
-
-pub none_of : (os : List (Option Fault)) → first_some os ≡ None → AllByRecursion (λ o. o ≡ None) os
-none_of [] h = tt
-none_of (None ∷ os) h = (refl, none_of os h)
-none_of (Some f ∷ os) h = absurd cc
-
-pub not_when : (t : Bool) (f : Fault) → when t f ≡ None → t ≡ false
-not_when true f h = absurd cc
-not_when false f h = refl
 
 -- a card has the fields that its kind needs
 enough_by : (l : Line) (kind : Kind) (fields : List (List ℕ)) → no_card_by l kind fields ≡ None → needs kind ≤ length fields
@@ -31,52 +18,10 @@ enough_by l kind fields h =
     ∷ when (is_unknown kind) (unknown_card l.line (first_byte l.text))
     ∷ when (ltb (length fields) (needs kind)) (short_card l.line (length fields) (needs kind))
     ∷ when (is_control kind) (control_block l.line) ∷ []) h in
-    ltb-false (length fields) (needs kind) (not_when (ltb (length fields) (needs kind)) (short_card l.line (length fields) (needs kind)) none.1.1.0)
+    ltb-false (length fields) (needs kind) (when_none (ltb (length fields) (needs kind)) (short_card l.line (length fields) (needs kind)) none.1.1.0)
 
-pub enough : (l : Line) → no_card l ≡ None → needs (kind_of l.text) ≤ length (all_fields l.text)
+enough : (l : Line) → no_card l ≡ None → needs (kind_of l.text) ≤ length (all_fields l.text)
 enough l h = enough_by l (kind_of l.text) (all_fields l.text) h
-
--- ---- devices
-
--- a card that is a device has the nodes that its letter demands
-abbrev pub KnownCard : Card → Type 0
-KnownCard (dev d) = IsDeviceCard d
-KnownCard _ = Unit {0}
-
-front_length : (ys : List (List ℕ)) → length ys ≤ 1 → length (option_to_list (front ys)) ≡ length ys
-front_length [] h = refl
-front_length (y ∷ []) h = refl
-front_length (y ∷ z ∷ ys) h = absurd (omega arith)
-
-device_known : (nodes count b : ℕ) (more : List ℕ) (others : List (List ℕ)) (tail text : List ℕ) → nodes < count → count ≤ nodes + 2 → count ≤ suc (length others)
-    → ((dot : Kind) → by_byte (kinds dot) b ≡ device nodes count) → KnownCard (card_by (device nodes count) (take count ((b ∷ more) ∷ others)) tail text)
-device_known nodes zero b more others tail text few many some letter = absurd (omega arith)
-device_known nodes (suc count) b more others tail text few many some letter =
-    let names = take count others in
-    let n = length-take count others in
-    let t = length-take nodes names in
-    let d = length-drop nodes names in
-    let f = front_length (drop nodes names) (omega arith) in
-    let a = length-append (take nodes names) (option_to_list (front (drop nodes names))) in
-    let e1 : nodes ≡ length (take nodes names) = omega arith in
-    let e2 : suc count ≡ suc (length (take nodes names ++ option_to_list (front (drop nodes names)))) = omega arith in
-    record { letter = λ dot. letter dot ∙ ap₂ device e1 e2 }
-
-known_by : (dot : Kind) (b : ℕ) (bs : List ℕ) (kind : Kind) (tail : List ℕ) → NoDevice dot → by_byte (kinds dot) (fold_byte b) ≡ kind → needs kind ≤ length (all_fields (b ∷ bs))
-    → KnownCard (card_by kind (names_of kind (all_fields (b ∷ bs))) tail (b ∷ bs))
-known_by dot b bs (device nodes count) tail h e some =
-    let right = subst Right e (kind_is_right dot (fold_byte b) h) in
-    let begin = fields_begin b bs (device_begins dot b nodes count e) in
-    let l = ap (λ (fs : List (List ℕ)). length fs) begin.are in
-    subst (λ fs. KnownCard (card_by (device nodes count) (take count fs) tail (b ∷ bs))) (sym begin.are)
-    (device_known nodes count (fold_byte b) begin.more begin.others tail (b ∷ bs) right.0 right.1 (omega arith) (λ k. letter_stays dot k (fold_byte b) nodes count h e))
-known_by dot b bs _ tail h e some = tt
-
-card_known : (text : List ℕ) → needs (kind_of text) ≤ length (all_fields text) → KnownCard (card_of text)
-card_known [] h = tt
-card_known (b ∷ bs) h =
-    let word = first_field (b ∷ bs) in
-    known_by (word_in dot_words word) b bs (kind_of (b ∷ bs)) (tail_at (kind_of (b ∷ bs)) (fields_of (b ∷ bs))) (dot_is_none word) refl h
 
 -- ---- sizes
 
@@ -133,12 +78,6 @@ card_small text h =
     let f = all_fields_few text in
     omega arith
 
--- ---- both
-
-pub record CardRead (size : ℕ) (c : Card) : Type 0 where
-  pub known : KnownCard c
-  pub small : card_size c ≤ size
-
--- a line that is a card is such a card
-pub card_read : (l : Line) → no_card l ≡ None → CardRead (length l.text) (card_of l.text)
-card_read l h = let some = enough l h in record { known = card_known l.text some; small = card_small l.text some }
+-- the card of a line is no larger than its text
+pub card_read : (l : Line) → no_card l ≡ None → card_size (card_of l.text) ≤ length l.text
+card_read l h = card_small l.text (enough l h)

@@ -1,9 +1,9 @@
--- How many fields a text has, and how the first begins.
-use Rattle.std.proofs.Common.{◌≡◌, ◌≤◌, ◌+◌, ℕ, suc, List, [], ◌∷◌, length, map, cond, ltb, Bool, true, false, refl, ap, arith}
+-- How many fields a text has.
+use Rattle.std.proofs.Common.{◌≡◌, ◌≤◌, ◌+◌, ℕ, suc, List, [], ◌∷◌, length, cond, ltb, Bool, true, false, refl, arith}
 use Rattle.std.specs.Prelude.{filter}
 use Rattle.std.proofs.lemmas.List.{length-map}
-use Rattle.std.proofs.lemmas.Bool.{ltb-true, lt-ltb}
-use Rattle.gl_text.specs.LogicalLines.{Piece, onto, pieces_of, is_field, fields_of, is_separator, folded, fold_byte}
+use Rattle.std.proofs.lemmas.Bool.{ltb-true}
+use Rattle.gl_text.specs.LogicalLines.{Piece, onto, pieces_of, is_field, fields_of, is_separator, folded}
 use Rattle.gl_text.specs.Cards.{all_fields}
 use Rattle.gl_known.proofs.Totals.{total}
 
@@ -35,29 +35,3 @@ fields_few (p ∷ ps) = let f = fields_by p (filter is_field ps) (is_field p) re
 pub all_fields_few : (text : List ℕ) → length (all_fields text) ≤ length text
 all_fields_few text =
     let m = length-map (fields_of text) (λ (p : Piece). folded p.bytes) in let f = fields_few (pieces_of text) in let s = pieces_small text in omega arith
-
--- ---- the first field
-
-abbrev shown : List Piece → List (List ℕ)
-shown ps = map (λ (p : Piece). folded p.bytes) (filter is_field ps)
-
--- fields of which the first begins with b
-pub record BeginWith (b : ℕ) (fields : List (List ℕ)) : Type 0 where
-  pub more : List ℕ
-  pub others : List (List ℕ)
-  pub are : fields ≡ (b ∷ more) ∷ others
-
-onto_begins : (b : ℕ) (ps : List Piece) → BeginWith (fold_byte b) (shown (onto b ps))
-onto_begins b [] = record { more = []; others = []; are = refl }
-onto_begins b (p ∷ ps) =
-    let q : Piece = record p { bytes = b ∷ p.bytes } in
-    let e : ltb 0 (suc (length p.bytes)) ≡ true = lt-ltb 0 (suc (length p.bytes)) (omega arith) in
-    record { more = folded p.bytes; others = shown ps; are = ap (λ t. map (λ (r : Piece). folded r.bytes) (cond t (q ∷ filter is_field ps) (filter is_field ps))) e }
-
-begins_by : (b : ℕ) (bs : List ℕ) (t : Bool) → t ≡ false → BeginWith (fold_byte b) (shown (cond t (record { bytes = []; behind = b ∷ bs } ∷ pieces_of bs) (onto b (pieces_of bs))))
-begins_by b bs true e = absurd cc
-begins_by b bs false e = onto_begins b (pieces_of bs)
-
--- a text that begins with no separator has a first field that begins with its first byte
-pub fields_begin : (b : ℕ) (bs : List ℕ) → is_separator b ≡ false → BeginWith (fold_byte b) (all_fields (b ∷ bs))
-fields_begin b bs e = begins_by b bs (is_separator b) e

@@ -4,14 +4,14 @@ use Rattle.std.specs.Prelude.{sum_by}
 use Rattle.std.specs.List.{AllByRecursion}
 use Rattle.std.proofs.lemmas.List.Elements.{All-from_recursion}
 use Rattle.gl_text.specs.LogicalLines.{NAME, long_flat_name, long_text}
-use Rattle.gl_text.specs.Cards.{Device, Head, Model, first_some, when, or_else, IsDeviceCard}
-use Rattle.gl_text.specs.Decks.{◌>>=◌, Body, dev_at, call_at, Sub, Deck, deck_text}
+use Rattle.gl_fault.specs.Refusals.{first_some, when, or_else, ◌>>=◌}
+use Rattle.gl_text.specs.Cards.{Device, Head, Model, IsDeviceCard}
+use Rattle.gl_text.specs.Decks.{Body, dev_at, call_at, Sub, Deck, deck_text}
 use Rattle.gl_text.specs.Flattening.{DEPTH, TEXT, FlatDevice, Flat, net, top_net, top_ports, top_place, flat_devices, bearers, bearer_name, first_clash, chosen, flat_card, flat_text, flatten}
 use Rattle.gl_printed.specs.ReadCards.{IsFine}
 use Rattle.gl_printed.specs.ReadDecks.{body_card, IsReadDeck, unnumbered_body, unnumbered_sub, unnumbered}
 use Rattle.gl_printed.specs.FlatDecks.{AreRails, flat_cards, deck_of}
-use Rattle.gl_printed.proofs.Refusals.{or_else_ok, when_none}
-use Rattle.gl_printed.proofs.Reading.{bind_ok}
+use Rattle.gl_fault.proofs.FirstLaws.{or_else_ok, when_none, bind_ok}
 use Rattle.gl_printed.proofs.ReadBackLaws.{read_back}
 use Rattle.gl_printed.proofs.FlatAlike.{behind_chosen, faults_flat, finish_flat, flatten_is}
 use Rattle.gl_printed.proofs.FlatDeckLaws.{flat_text_is, flat_fine_deck}

@@ -4,10 +4,11 @@ use Rattle.std.specs.Prelude.{not, filter, flat_map, sum_by}
 use Rattle.std.specs.List.{onto_first, position_or_len}
 use Rattle.std.proofs.lemmas.List.{length-append, length-drop}
 use Rattle.std.proofs.lemmas.Bool.{ltb-true, and_parts}
-use Rattle.gl_text.specs.LogicalLines.{LINE, long_line, begins, put_back, trim_end, trim_front, is_blank, Line, lines_of, after_title, trimmed_from, is_kept, is_more, grouped, joined, up_to_end, up_to_long, logical_of, kept_lines, logical_lines, first_field, same_text}
+use Rattle.gl_text.specs.LogicalLines.{LINE, long_line, begins, trim_end, is_blank, Line, lines_of, after_title, trimmed_from, is_kept, is_more, grouped, joined, up_to_end, up_to_long, logical_of, kept_lines, logical_lines, first_field, same_text}
 use Rattle.gl_text.specs.Decks.{file_lines}
 use Rattle.gl_known.specs.Known.{line_size}
 use Rattle.gl_known.proofs.Totals.{total, total_is, length-flat_map}
+use Rattle.gl_text.proofs.Trims.{front_shorter, end_shorter}
 
 -- ---- lines
 
@@ -23,24 +24,6 @@ lines_short : (bytes : List ℕ) → total length (lines_of bytes) ≤ length by
 lines_short [] = omega arith
 lines_short (b ∷ bs) = let h = lines_short bs in let f = first_longer b (lines_of bs) in shorter (eqb b 10) (suc (length bs)) ([] ∷ lines_of bs) (onto_first b (lines_of bs)) (omega arith) (omega arith)
 
-front_short : (p : ℕ → Bool) (xs : List ℕ) → length (trim_front p xs) ≤ length xs
-front_short p [] = omega arith
-front_short p (x ∷ xs) = by (p x) (front_short p xs) where
-  by : (t : Bool) → length (trim_front p xs) ≤ length xs → length (cond t (trim_front p xs) (x ∷ xs)) ≤ suc (length xs)
-  by true h = omega arith
-  by false h = omega arith
-
-back_short : (p : ℕ → Bool) (x : ℕ) (xs : List ℕ) → length (put_back p x xs) ≤ suc (length xs)
-back_short p x [] = by (p x) where
-  by : (t : Bool) → length (cond t [] (x ∷ [])) ≤ 1
-  by true = omega arith
-  by false = omega arith
-back_short p x (y ∷ ys) = omega arith
-
-end_short : (p : ℕ → Bool) (xs : List ℕ) → length (trim_end p xs) ≤ length xs
-end_short p [] = omega arith
-end_short p (x ∷ xs) = let h = end_short p xs in let b = back_short p x (trim_end p xs) in omega arith
-
 -- ---- kept lines
 
 abbrev text_size : Line → ℕ
@@ -53,7 +36,7 @@ more_size l = suc (length (drop 1 l.text))
 trimmed_short : (n : ℕ) (ls : List (List ℕ)) → total text_size (trimmed_from n ls) ≤ total length ls
 trimmed_short n [] = omega arith
 trimmed_short n (l ∷ ls) =
-    let f = front_short is_blank (trim_end is_blank l) in let e = end_short is_blank l in let h = trimmed_short (n + 1) ls in omega arith
+    let f = front_shorter is_blank (trim_end is_blank l) in let e = end_shorter is_blank l in let h = trimmed_short (n + 1) ls in omega arith
 
 some_same : (l : Line) → is_kept l ≡ true → more_size l ≤ length l.text
 some_same l h = let s = ltb-true 0 (length l.text) (and_parts (ltb 0 (length l.text)) (not (begins 42 l.text)) h).0 in let d = length-drop 1 l.text in omega arith

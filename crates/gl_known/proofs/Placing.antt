@@ -1,14 +1,15 @@
 -- The cards of lines, each behind those before it.
-use Rattle.std.proofs.Common.{codes, ◌≡◌, ◌≤◌, ℕ, suc, List, [], ◌∷◌, ◌++◌, length, false, Option, None, Result, Ok, Err, refl, sym, ◌∙◌, subst, append_assoc, append-nil, arith}
+use Rattle.gl_fault.proofs.FirstLaws.{or_else_ok}
+use Rattle.std.proofs.Common.{codes, ◌≡◌, ◌≤◌, ℕ, suc, List, [], ◌∷◌, ◌++◌, length, Option, Result, Ok, Err, refl, sym, ◌∙◌, subst, append_assoc, append-nil, arith}
 use Rattle.std.specs.Prelude.{◌&&◌}
-use Rattle.std.specs.List.{AllByRecursion}
 use Rattle.gl_text.specs.LogicalLines.{Fault, local_card, duplicate_port, zero_port, Line}
-use Rattle.gl_text.specs.Cards.{card_of, first_some, when, or_else, no_card, has_parameters, has_long_tail}
-use Rattle.gl_text.specs.Decks.{◌>>=◌, Placed, scope_behind, is_inside, is_in, nested, bad_ends, is_of_top, duplicate, has_twice, ports_of, place, placed_from}
+use Rattle.gl_fault.specs.Refusals.{first_some, when, or_else, ◌>>=◌}
+use Rattle.gl_text.specs.Cards.{card_of, no_card, has_parameters, has_long_tail}
+use Rattle.gl_text.specs.Decks.{Placed, scope_behind, is_inside, is_in, nested, bad_ends, is_of_top, duplicate, has_twice, ports_of, place, placed_from}
 use Rattle.gl_known.specs.Known.{line_size}
 use Rattle.gl_known.proofs.Totals.{total}
 use Rattle.gl_known.proofs.Ascent.{RisingLines}
-use Rattle.gl_known.proofs.CardsRead.{KnownCard, card_read, card_size, some_none, none_of, not_when}
+use Rattle.gl_known.proofs.CardsRead.{card_read, card_size}
 
 -- two steps of reading gave y
 pub record Bound {A B : Type 0} (r : Result A Fault) (f : A → Result B Fault) (y : B) : Type 0 where
@@ -25,10 +26,7 @@ bound (Err e) f y h = absurd cc
 -- what is known of a card behind others, by its line
 pub record FromLine (l : Line) (p : Placed) : Type 0 where
   pub line : p.line ≡ l.line
-  pub known : KnownCard p.card
   pub small : card_size p.card ≤ length l.text
-  pub ports_differ : has_twice (ports_of p.card) ≡ false
-  pub no_zero : is_in (codes "0") (ports_of p.card) ≡ false
 
 -- the card of a line behind others
 abbrev placed : List Placed → Line → Placed
@@ -43,26 +41,12 @@ late_faults before l p = nested p ∷ bad_ends p
     ∷ when (is_in (codes "0") (ports_of p.card)) (zero_port p.line)
     ∷ has_long_tail l ∷ []
 
-placed_known : (before : List Placed) (l : Line) → no_card l ≡ None → first_some (late_faults before l (placed before l)) ≡ None → FromLine l (placed before l)
-placed_known before l h late =
-    let read = card_read l h in
-    let none = none_of (late_faults before l (placed before l)) late in
-    let card = card_of l.text in
-    record {
-      line = refl;
-      known = read.known;
-      small = read.small;
-      ports_differ = not_when (has_twice (ports_of card)) (duplicate_port l.line) none.1.1.1.1.1.0;
-      no_zero = not_when (is_in (codes "0") (ports_of card)) (zero_port l.line) none.1.1.1.1.1.1.0;
-    }
-
-pub place_known : (before : List Placed) (l : Line) (p : Placed) → place before l ≡ Ok p → FromLine l p
+place_known : (before : List Placed) (l : Line) (p : Placed) → place before l ≡ Ok p → FromLine l p
 place_known before l p h =
     let b = bound (or_else (no_card l) (placed before l)) (λ q. or_else (first_some (late_faults before l q)) q) p h in
-    let early = some_none (no_card l) (placed before l) b.first b.was in
-    let late = some_none (first_some (late_faults before l b.first)) b.first p b.gives in
-    let none = subst (λ q. first_some (late_faults before l q) ≡ None) (sym early.1) late.0 in
-    subst (FromLine l) (early.1 ∙ late.1) (placed_known before l early.0 none)
+    let early = or_else_ok (no_card l) (placed before l) b.first b.was in
+    let late = or_else_ok (first_some (late_faults before l b.first)) b.first p b.gives in
+    subst (FromLine l) (early.1 ∙ late.1) (record { line = refl; small = card_read l early.0 })
 
 -- ---- all cards
 
@@ -92,19 +76,6 @@ pub all_placed : (lines : List (Result Line Fault)) (cards : List Placed) → pl
 all_placed lines cards h = let b = all_behind [] lines cards h in subst (FromLines lines) (sym b.are) b.from
 
 -- ---- what follows
-
--- what is known of a card without its line
-pub record KnownPlaced (p : Placed) : Type 0 where
-  pub known : KnownCard p.card
-  pub ports_differ : has_twice (ports_of p.card) ≡ false
-  pub no_zero : is_in (codes "0") (ports_of p.card) ≡ false
-
-pub all_known : (lines : List (Result Line Fault)) (cards : List Placed) → FromLines lines cards → AllByRecursion KnownPlaced cards
-all_known [] [] h = tt
-all_known [] (p ∷ ps) h = absurd h
-all_known (r ∷ ls) [] h = tt
-all_known (Err f ∷ ls) (p ∷ ps) h = absurd h
-all_known (Ok l ∷ ls) (p ∷ ps) h = (record { known = h.0.known; ports_differ = h.0.ports_differ; no_zero = h.0.no_zero }, all_known ls ps h.1)
 
 pub all_small : (lines : List (Result Line Fault)) (cards : List Placed) → FromLines lines cards → total (λ (p : Placed). card_size p.card) cards ≤ total line_size lines
 all_small [] [] h = omega arith

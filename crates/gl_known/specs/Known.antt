@@ -1,10 +1,11 @@
 -- What is known of every deck that was read, and of its flat deck: cards are such as are read, and sizes are at most the numbers of bytes. This project's own.
 use Rattle.std.specs.Prelude.{◌≡◌, ℕ, ◌+◌, ◌≤◌, false, length, map, sum_by, Result, Ok, Err, codes, All}
-use Rattle.gl_text.specs.LogicalLines.{Fault, Line}
+use Rattle.gl_text.specs.LogicalLines.{FILE, Fault, Line}
 use Rattle.gl_text.specs.Cards.{IsDeviceCard}
 use Rattle.gl_text.specs.Decks.{Body, dev_at, call_at, Sub, Deck, is_in, has_twice}
 use Rattle.gl_text.specs.Flattening.{Flat, flat_card}
 use Rattle.gl_text.specs.CellCards.{devices_in, places_count}
+use Rattle.gl_printed.specs.ReadDecks.{IsReadDeck}
 
 -- ---- sizes
 
@@ -34,8 +35,9 @@ pub record IsKnownSub (s : Sub) : Type 0 where
   pub ports_differ : has_twice s.head.ports ≡ false
   pub no_zero : is_in (codes "0") s.head.ports ≡ false
 
--- each device has the nodes that its letter demands, each subcircuit is so, and all together is no larger than a size
+-- a deck as it is read: each device has the nodes that its letter demands, each subcircuit is so, and all together is no larger than a size
 pub record IsKnownDeck (size : ℕ) (d : Deck) : Type 0 where
+  pub read : IsReadDeck d
   pub top_cards : All IsDeviceCard (devices_in d.top)
   pub subs_known : All IsKnownSub d.subs
   pub small : deck_size d ≤ size
@@ -43,4 +45,4 @@ pub record IsKnownDeck (size : ℕ) (d : Deck) : Type 0 where
 -- each flat device has the nodes that its letter demands, and the places of all are no more than the bytes of a file
 pub record IsKnownFlat (f : Flat) : Type 0 where
   pub cards : All IsDeviceCard (map flat_card f.devices)
-  pub places : places_count (map flat_card f.devices) ≤ 67108864
+  pub places : places_count (map flat_card f.devices) ≤ FILE

@@ -11,9 +11,12 @@ pub fn lines_are_short()
     ensures together { (has_title : Bool) (bytes : List ℕ) → sum_by line_size (file_lines has_title bytes) ≤ length bytes }
 {}
 
-/// A deck that is read has cards such as are read, and its size is at most the number of bytes.
+/// A deck that is read is a deck as it is read, and its size is at most the number of bytes.
 pub fn read_decks_are_known()
-    ensures known { (has_title : Bool) (bytes : List ℕ) (deck : Deck) → read_deck has_title bytes ≡ Ok deck → IsKnownDeck (length bytes) deck }
+    ensures known { (has_title : Bool) (bytes : List ℕ) (deck : Deck)
+        → read_deck has_title bytes ≡ Ok deck → IsKnownDeck (length bytes) deck }
+    ensures of_file { (has_title : Bool) (bytes : List ℕ) (deck : Deck)
+        → length bytes ≤ FILE → read_deck has_title bytes ≡ Ok deck → IsKnownDeck FILE deck }
 {}
 
 /// The flat deck of a deck as it is read has cards such as are read, and no more places than a file has bytes.

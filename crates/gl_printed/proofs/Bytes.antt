@@ -2,10 +2,11 @@
 use Rattle.std.proofs.Common.{◌≡◌, ◌≤◌, ◌+◌, ℕ, List, [], ◌∷◌, ◌++◌, length, cond, eqb, leb, true, false, Bool, refl, ap, arith, ne_eqb, leb-true}
 use Rattle.std.specs.Prelude.{◌||◌, ◌&&◌}
 use Rattle.std.specs.List.{AllByRecursion}
-use Rattle.std.proofs.lemmas.Bool.{or_parts, lt-leb}
+use Rattle.std.proofs.lemmas.Bool.{or_parts, lt-leb, and_parts}
 use Rattle.gl_text.specs.LogicalLines.{is_blank, is_separator, is_loose, fold_byte, folded, put_back, trim_end, trim_front, squeeze, squeezed, tail_of}
-use Rattle.gl_printed.specs.ReadCards.{IsOneLine}
-use Rattle.gl_printed.proofs.Each.{by_cond}
+use Rattle.gl_text.specs.WayBack.{IsOneLine}
+use Rattle.gl_lists.proofs.Each.{by_cond}
+use Rattle.gl_text.proofs.Trims.{end_shorter, front_shorter, squeezed_shorter}
 
 abbrev pub Plain : List ℕ → Type 0
 Plain bytes = AllByRecursion (λ b. is_separator b ≡ false) bytes
@@ -16,13 +17,9 @@ pub record IsStart (b : ℕ) : Type 0 where
   pub no_star : eqb b 42 ≡ false
   pub no_plus : eqb b 43 ≡ false
 
-and_true : (x y : Bool) → (x && y) ≡ true → (x ≡ true) × (y ≡ true)
-and_true true y h = (refl, h)
-and_true false y h = absurd cc
-
 -- folding leaves a byte, or it is a letter and gets 32 more
 pub fold_elim : (P : ℕ → Type 0) (b : ℕ) → (65 ≤ b → b ≤ 90 → P (b + 32)) → (fold_byte b ≡ b → P b) → P (fold_byte b)
-fold_elim P b up same = by_cond P (leb 65 b && leb b 90) (b + 32) b (λ e. let f = and_true (leb 65 b) (leb b 90) e in up (leb-true 65 b f.0) (leb-true b 90 f.1)) (λ e. same (ap (λ t. cond t (b + 32) b) e))
+fold_elim P b up same = by_cond P (leb 65 b && leb b 90) (b + 32) b (λ e. let f = and_parts (leb 65 b) (leb b 90) e in up (leb-true 65 b f.0) (leb-true b 90 f.1)) (λ e. same (ap (λ t. cond t (b + 32) b) e))
 
 pub high_plain : (b : ℕ) → 62 ≤ b → is_separator b ≡ false
 high_plain b h = rw (ne_eqb b 32 (omega arith), ne_eqb b 9 (omega arith), ne_eqb b 13 (omega arith), ne_eqb b 44 (omega arith), ne_eqb b 61 (omega arith), ne_eqb b 40 (omega arith), ne_eqb b 41 (omega arith)) refl
@@ -87,25 +84,6 @@ pub each_tail : (Q : ℕ → Type 0) → Q 32 → (text : List ℕ) → AllByRec
 each_tail Q s text h = each_squeezed Q s (trim_end is_blank (trim_front is_loose text)) (each_end Q is_blank (trim_front is_loose text) (each_front Q is_loose text h))
 
 -- ---- lengths
-
-pub end_shorter : (p : ℕ → Bool) (xs : List ℕ) → length (trim_end p xs) ≤ length xs
-end_shorter p [] = omega arith
-end_shorter p (x ∷ xs) = by (trim_end p xs) (end_shorter p xs) where
-  by : (ys : List ℕ) → length ys ≤ length xs → length (put_back p x ys) ≤ length (x ∷ xs)
-  by [] l = by_cond (λ zs. length zs ≤ length (x ∷ xs)) (p x) [] (x ∷ []) (λ e. omega arith) (λ e. omega arith)
-  by (y ∷ ys) l = omega arith
-
-front_shorter : (p : ℕ → Bool) (xs : List ℕ) → length (trim_front p xs) ≤ length xs
-front_shorter p [] = omega arith
-front_shorter p (x ∷ xs) = by_cond (λ ys. length ys ≤ length (x ∷ xs)) (p x) (trim_front p xs) (x ∷ xs) (λ e. let l = front_shorter p xs in omega arith) (λ e. omega arith)
-
-squeezed_shorter : (xs : List ℕ) → length (squeezed xs) ≤ length xs
-squeezed_shorter [] = omega arith
-squeezed_shorter (x ∷ xs) = by (squeezed xs) (squeezed_shorter xs) where
-  by : (ys : List ℕ) → length ys ≤ length xs → length (squeeze x ys) ≤ length (x ∷ xs)
-  by [] l = omega arith
-  by (c ∷ cs) l = by_cond (λ zs. length zs ≤ length (x ∷ xs)) (is_blank x) (cond (eqb c 32) (c ∷ cs) (32 ∷ c ∷ cs)) (x ∷ c ∷ cs)
-      (λ e. by_cond (λ zs. length zs ≤ length (x ∷ xs)) (eqb c 32) (c ∷ cs) (32 ∷ c ∷ cs) (λ f. omega arith) (λ f. omega arith)) (λ e. omega arith)
 
 -- a text that trimming does not shorten stays as it is
 front_same : (p : ℕ → Bool) (xs : List ℕ) → length xs ≤ length (trim_front p xs) → trim_front p xs ≡ xs

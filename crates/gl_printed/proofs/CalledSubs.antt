@@ -1,15 +1,17 @@
 -- What X cards call.
-use Rattle.std.proofs.Common.{◌≡◌, ◌≤◌, ℕ, List, [], ◌∷◌, length, eqb, true, false, not, Bool, Option, Some, None, refl, sym, ap, ◌∙◌, subst, arith, lt-ltb, eqb-true, eq-eqb}
+use Rattle.std.proofs.Common.{◌≡◌, ◌≤◌, ℕ, List, [], ◌∷◌, length, eqb, true, false, not, Option, Some, None, refl, sym, ap, ◌∙◌, subst, arith, lt-ltb, eqb-true, eq-eqb}
 use Rattle.std.specs.Prelude.{◌&&◌}
 use Rattle.gl_text.specs.LogicalLines.{wrong_node_count, recursive}
-use Rattle.gl_text.specs.Cards.{Card, Call, dev, call, when}
+use Rattle.gl_fault.specs.Refusals.{when}
+use Rattle.gl_text.specs.Cards.{Card, Call, dev, call}
 use Rattle.gl_text.specs.Decks.{Body, dev_at, call_at, Sub, Scope, top_scope, is_inside, find_sub, reaches, call_fault}
 use Rattle.gl_printed.specs.ReadDecks.{body_card, IsCallOf, FindsSub, FindsSubWithin}
-use Rattle.gl_printed.proofs.Refusals.{none_first, when_none}
+use Rattle.gl_fault.proofs.FirstLaws.{none_first, when_none}
 use Rattle.gl_printed.proofs.DistinctNames.{body_in}
 use Rattle.gl_printed.proofs.Renumbered.{Same, same_call}
 use Rattle.gl_printed.proofs.PlacedCards.{inside, placed}
 use Rattle.gl_printed.proofs.PickedCards.{in_scope_is, not_here}
+use Rattle.std.proofs.lemmas.Bool.{not-false}
 
 -- ---- calls that are read
 
@@ -17,10 +19,6 @@ pub record IsCalled (subs : List Sub) (s : Scope) (c : Call) : Type 0 where
   pub sub : Sub
   pub is_call : IsCallOf subs c sub
   pub no_way_back : (is_inside s && reaches subs sub s.name) ≡ false
-
-not_false : (b : Bool) → not b ≡ false → b ≡ true
-not_false true e = refl
-not_false false e = absurd cc
 
 pub called : (subs : List Sub) (s : Scope) (n : ℕ) (c : Call) → call_fault subs (placed s n (call c)) ≡ None → IsCalled subs s c
 called subs s n c h = by (find_sub subs c.sub) refl where
@@ -32,7 +30,7 @@ called subs s n c h = by (find_sub subs c.sub) refl where
       let b = none_first (when (is_inside s && reaches subs t s.name) (recursive n)) [] a.1 in
       record {
         sub = t;
-        is_call = record { found = e; as_many = eqb-true (length c.nodes) (length t.head.ports) (not_false (eqb (length c.nodes) (length t.head.ports)) (when_none (not (eqb (length c.nodes) (length t.head.ports))) (wrong_node_count n (length c.nodes) (length t.head.ports)) a.0)) };
+        is_call = record { found = e; as_many = eqb-true (length c.nodes) (length t.head.ports) (not-false (eqb (length c.nodes) (length t.head.ports)) (when_none (not (eqb (length c.nodes) (length t.head.ports))) (wrong_node_count n (length c.nodes) (length t.head.ports)) a.0)) };
         no_way_back = when_none (is_inside s && reaches subs t s.name) (recursive n) b.0;
       }
 

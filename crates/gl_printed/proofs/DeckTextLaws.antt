@@ -7,7 +7,7 @@ use Rattle.std.proofs.Math.Seq.{take-append_seam}
 use Rattle.gl_text.specs.LogicalLines.{title_of, after_title, trim_end}
 use Rattle.gl_text.specs.Cards.{subckt, ends, global, model, passed, ended}
 use Rattle.gl_text.specs.Decks.{Body, dev_at, call_at, Sub, Deck, body_line, sub_text, line_of, deck_text}
-use Rattle.gl_printed.specs.ReadCards.{IsOneLine}
+use Rattle.gl_text.specs.WayBack.{IsOneLine}
 use Rattle.gl_printed.specs.ReadDecks.{IsTitle, body_card, sub_cards, cards_of}
 use Rattle.gl_printed.proofs.DeckCards.{all_are, all_cards, picked_parts}
 

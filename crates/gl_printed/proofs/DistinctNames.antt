@@ -8,7 +8,10 @@ use Rattle.gl_text.specs.LogicalLines.{Fault, duplicate_name, same_text}
 use Rattle.gl_text.specs.Cards.{Model, Head, Card, dev, call, model, subckt}
 use Rattle.gl_text.specs.Decks.{Body, dev_at, call_at, Scope, Placed, Named, in_scope, of_model, of_sub, nothing, named, same_named, duplicate, is_in, has_twice, body_of, model_of}
 use Rattle.gl_printed.specs.ReadDecks.{body_name}
-use Rattle.gl_printed.proofs.NamesTwice.{eqb_flip, twice_middle, twice_more}
+use Rattle.gl_printed.proofs.NamesTwice.{twice_middle, twice_more}
+use Rattle.gl_lists.proofs.Bools.{eqb_flip}
+use Rattle.std.proofs.lemmas.Option.{same_Some}
+pub use Rattle.std.proofs.lemmas.Option.{same_Some as some_is}
 
 -- ---- names of one namespace among placed cards
 
@@ -129,16 +132,13 @@ middle_by ps s line c qs h = none_found ps
 pub no_duplicate_in : (ps : List Placed) (p : Placed) (qs : List Placed) → NamesDiffer (ps ++ p ∷ qs) → duplicate ps p ≡ None
 no_duplicate_in ps p qs h = no_duplicate ps p (middle_by ps p.scope p.line p.card qs h)
 
-pub some_is : {X : Type 0} (x y : X) → Some x ≡ Some y → x ≡ y
-some_is x y e = cc
-
 pub none_is : {X : Type 0} {P : Type 0} (y : X) → None ≡ Some y → P
 none_is y e = absurd cc
 
 in_here : (L : ℕ) (ps : List Placed) (s : Scope) (b y : Body) → is_in (body_name b) (names_by (body_in s.line) body_name ps) ≡ false → cond (eqb s.line L) (Some b) None ≡ Some y → is_in (body_name y) (names_by (body_in L) body_name ps) ≡ false
 in_here L ps s b y n = by (eqb s.line L) refl where
   by : (t : Bool) → eqb s.line L ≡ t → cond t (Some b) None ≡ Some y → is_in (body_name y) (names_by (body_in L) body_name ps) ≡ false
-  by true e f = subst (λ z. is_in (body_name z) (names_by (body_in L) body_name ps) ≡ false) (some_is b y f) (subst (λ k. is_in (body_name b) (names_by (body_in k) body_name ps) ≡ false) (eqb-true s.line L e) n)
+  by true e f = subst (λ z. is_in (body_name z) (names_by (body_in L) body_name ps) ≡ false) (same_Some b y f) (subst (λ k. is_in (body_name b) (names_by (body_in k) body_name ps) ≡ false) (eqb-true s.line L e) n)
   by false e f = none_is y f
 
 not_here : (t : Bool) (y : Body) → cond t None None ≡ Some y → ⊥
@@ -151,11 +151,11 @@ scope_by ps L s line (call d) n y e = in_here L ps s (call_at line d) y (sym (bo
 scope_by ps L s line c n y e = absurd (not_here (eqb s.line L) y e)
 
 model_by : (ps : List Placed) (s : Scope) (line : ℕ) (c : Card) → found (named (record { scope = s; line = line; card = c })) ps ≡ false → (y : Model) → model_of (record { scope = s; line = line; card = c }) ≡ Some y → is_in y.name (names_by model_of model_name ps) ≡ false
-model_by ps s line (model d) n y e = subst (λ (z : Model). is_in z.name (names_by model_of model_name ps) ≡ false) (some_is d y e) (sym (model_found d.name ps) ∙ n)
+model_by ps s line (model d) n y e = subst (λ (z : Model). is_in z.name (names_by model_of model_name ps) ≡ false) (same_Some d y e) (sym (model_found d.name ps) ∙ n)
 model_by ps s line c n y e = none_is y e
 
 head_by : (ps : List Placed) (s : Scope) (line : ℕ) (c : Card) → found (named (record { scope = s; line = line; card = c })) ps ≡ false → (y : Head) → head_of (record { scope = s; line = line; card = c }) ≡ Some y → is_in y.name (names_by head_of head_name ps) ≡ false
-head_by ps s line (subckt d) n y e = subst (λ (z : Head). is_in z.name (names_by head_of head_name ps) ≡ false) (some_is d y e) (sym (head_found d.name ps) ∙ n)
+head_by ps s line (subckt d) n y e = subst (λ (z : Head). is_in z.name (names_by head_of head_name ps) ≡ false) (same_Some d y e) (sym (head_found d.name ps) ∙ n)
 head_by ps s line c n y e = none_is y e
 
 -- and a card with no earlier one's name leaves them so

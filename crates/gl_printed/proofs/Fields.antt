@@ -4,8 +4,8 @@ use Rattle.std.specs.List.{AllByRecursion, join_with_byte}
 use Rattle.std.proofs.lemmas.List.{length-map}
 use Rattle.gl_text.specs.LogicalLines.{Piece, onto, pieces_of, is_field, fields_of, is_blank, is_separator, fold_byte, folded, put_back, trim_end, head_bytes, first_field}
 use Rattle.gl_text.specs.Cards.{all_fields}
-use Rattle.gl_printed.specs.ReadCards.{IsOneLine}
-use Rattle.gl_printed.proofs.Each.{by_cond, each_both, each_filter, each_map, each_passes, each_to}
+use Rattle.gl_text.specs.WayBack.{IsOneLine}
+use Rattle.gl_lists.proofs.Each.{by_cond, each_both, each_filter, each_map, each_passes, each_to}
 use Rattle.gl_printed.proofs.Bytes.{Plain, folded_line, folded_plain, folded_twice, plain_no_blank}
 
 -- ---- what holds of each byte holds of each piece

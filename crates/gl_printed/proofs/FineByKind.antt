@@ -4,15 +4,16 @@ use Rattle.std.specs.Prelude.{option_to_list}
 use Rattle.std.specs.List.{AllByRecursion, join_with_byte}
 use Rattle.std.proofs.lemmas.List.{length-append}
 use Rattle.gl_text.specs.LogicalLines.{LINE, NAME, TAIL, is_blank, is_separator, put_back, trim_end, folded, fold_byte, first_field, tail_of}
-use Rattle.gl_text.specs.WayBack.{IsName}
+use Rattle.gl_text.specs.WayBack.{IsName, IsOneLine}
 use Rattle.gl_text.specs.Cards.{ended, passed, Kind, device, caller, modelling, opening, closing, globals, other, kinds, by_byte, word_in, dot_words, kind_of, names_of, first_or, last_name, but_last, front, card_by, all_fields, first_byte, with_tail}
-use Rattle.gl_printed.specs.ReadCards.{IsOneLine, IsFine}
-use Rattle.gl_printed.proofs.Each.{each_both}
-use Rattle.gl_printed.proofs.Bytes.{each_end, end_shorter, end_twice, plain_no_blank}
+use Rattle.gl_printed.specs.ReadCards.{IsFine}
+use Rattle.gl_lists.proofs.Each.{each_both}
+use Rattle.gl_printed.proofs.Bytes.{each_end, end_twice, plain_no_blank}
 use Rattle.gl_printed.proofs.Fields.{IsWord, fields_lines, fields_words, first_field_is, joined_shorter, run_end}
 use Rattle.gl_printed.proofs.KindTables.{Shaped}
 use Rattle.gl_printed.proofs.Refusals.{HasCard}
 use Rattle.gl_printed.proofs.PrintedFields.{Short, joined_line, with_tail_length, with_tail_line}
+use Rattle.gl_text.proofs.Trims.{end_shorter}
 
 -- the fields of one line that is not too long
 pub record IsFields (fs : List (List ℕ)) : Type 0 where
@@ -23,11 +24,12 @@ pub record IsFields (fs : List (List ℕ)) : Type 0 where
 pub fields_are : (text : List ℕ) → IsOneLine text → length text ≤ LINE → IsFields (all_fields text)
 fields_are text o s = let l = joined_shorter text in record { words = fields_words text; lines = fields_lines text o; joined = omega arith }
 
-name_of : (n : List ℕ) → IsWord n → length n ≤ NAME → IsName n
-name_of n w s = record { some = w.some; plain = w.plain; small = w.small; short = s }
+-- a word of one line that is not too long
+name_of : (n : List ℕ) → IsWord n → (length n ≤ NAME) × IsOneLine n → IsName n
+name_of n w s = record { some = w.some; one_line = s.1; plain = w.plain; small = w.small; short = s.0 }
 
-names_are : (ns : List (List ℕ)) → AllByRecursion IsWord ns → AllByRecursion Short ns → AllByRecursion IsName ns
-names_are = each_both IsWord Short IsName name_of
+names_are : (ns : List (List ℕ)) → AllByRecursion IsWord ns → AllByRecursion Short ns → AllByRecursion IsOneLine ns → AllByRecursion IsName ns
+names_are ns w s l = each_both IsWord (λ n. (length n ≤ NAME) × IsOneLine n) IsName name_of ns w (each_both Short IsOneLine (λ n. (length n ≤ NAME) × IsOneLine n) (λ n i j. (i, j)) ns s l)
 
 -- the tail of a card
 pub record IsTail (tail : List ℕ) : Type 0 where
@@ -70,7 +72,7 @@ device_fine k m (x ∷ xs) tail text n s h w r o t =
     record {
       is_read = record {
         kind = record { letter = λ dot. let g = h dot in cc };
-        names = subst (λ ys. AllByRecursion IsName (x ∷ ys)) (sym e) (names_are (x ∷ xs) w r);
+        names = subst (λ ys. AllByRecursion IsName (x ∷ ys)) (sym e) (names_are (x ∷ xs) w r o);
         normal = t.normal;
         short = t.short;
       };
@@ -90,7 +92,7 @@ call_fine (x ∷ []) tail text h f c = absurd (let a = c.enough in omega arith)
 call_fine (x ∷ y ∷ ys) tail text h f c =
     let e = last_again y ys in
     record {
-      is_read = record { letter = h; names = subst (λ xs. AllByRecursion IsName (x ∷ xs)) (sym e) (names_are (x ∷ y ∷ ys) f.words c.short) };
+      is_read = record { letter = h; names = subst (λ xs. AllByRecursion IsName (x ∷ xs)) (sym e) (names_are (x ∷ y ∷ ys) f.words c.short f.lines) };
       one_line = subst (λ xs. IsOneLine (join_with_byte 32 (x ∷ xs))) (sym e) (joined_line (x ∷ y ∷ ys) f.lines);
       short = subst (λ xs. length (join_with_byte 32 (x ∷ xs)) ≤ LINE) (sym e) f.joined;
     }
@@ -107,7 +109,7 @@ model_fine (x ∷ y ∷ z ∷ zs) tail text f c t =
     let long = with_tail_length ns tail s in
     let d = t.short in
     record {
-      is_read = record { names = names_are (y ∷ z ∷ []) (f.words.1.0, (f.words.1.1.0, tt)) c.short; normal = t.normal; short = t.short };
+      is_read = record { names = names_are (y ∷ z ∷ []) (f.words.1.0, (f.words.1.1.0, tt)) c.short (f.lines.1.0, (f.lines.1.1.0, tt)); normal = t.normal; short = t.short };
       one_line = with_tail_line ns tail ((refl, (refl, (refl, (refl, (refl, (refl, tt)))))), (f.lines.1.0, (f.lines.1.1.0, tt))) t.line;
       short = omega arith;
     }
@@ -116,7 +118,7 @@ pub subckt_fine : (fs : List (List ℕ)) (tail text : List ℕ) → first_or [] 
 subckt_fine [] tail text w f c = absurd (let a = c.enough in omega arith)
 subckt_fine (x ∷ []) tail text w f c = absurd (let a = c.enough in omega arith)
 subckt_fine (x ∷ y ∷ ys) tail text w f c = record {
-  is_read = names_are (y ∷ ys) f.words.1 c.short;
+  is_read = names_are (y ∷ ys) f.words.1 c.short f.lines.1;
   one_line = subst (λ z. IsOneLine (join_with_byte 32 (z ∷ y ∷ ys))) w (joined_line (x ∷ y ∷ ys) f.lines);
   short = subst (λ z. length (join_with_byte 32 (z ∷ y ∷ ys)) ≤ LINE) w f.joined;
 }
@@ -124,7 +126,7 @@ subckt_fine (x ∷ y ∷ ys) tail text w f c = record {
 pub global_fine : (fs : List (List ℕ)) (tail text : List ℕ) → first_or [] fs ≡ codes ".global" → IsFields fs → HasCard globals fs → IsFine (card_by globals (names_of globals fs) tail text)
 global_fine [] tail text w f c = absurd (let a = c.enough in omega arith)
 global_fine (x ∷ ys) tail text w f c = record {
-  is_read = names_are ys f.words.1 c.short;
+  is_read = names_are ys f.words.1 c.short f.lines.1;
   one_line = subst (λ z. IsOneLine (join_with_byte 32 (z ∷ ys))) w (joined_line (x ∷ ys) f.lines);
   short = subst (λ z. length (join_with_byte 32 (z ∷ ys)) ≤ LINE) w f.joined;
 }
@@ -143,7 +145,7 @@ ends_fine (x ∷ y ∷ ys) tail text w f c =
     let l : AllByRecursion IsOneLine ns = (subst IsOneLine w f.lines.0, (f.lines.1.0, tt)) in
     let e = length-append (join_with_byte 32 ns) [] in
     record {
-      is_read = names_are (y ∷ []) (f.words.1.0, tt) c.short;
+      is_read = names_are (y ∷ []) (f.words.1.0, tt) c.short (f.lines.1.0, tt);
       one_line = joined_line ns l;
       short = omega arith;
     }

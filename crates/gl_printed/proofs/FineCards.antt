@@ -4,10 +4,11 @@ use Rattle.std.specs.List.{AllByRecursion, join_with_byte}
 use Rattle.std.proofs.lemmas.List.{length-append}
 use Rattle.gl_text.specs.Cards.{Card, Head, model, subckt, ends, global, passed}
 use Rattle.gl_text.specs.Decks.{Body, dev_at, call_at, Sub, Deck}
-use Rattle.gl_printed.specs.ReadCards.{IsOneLine, IsFine}
+use Rattle.gl_text.specs.WayBack.{IsOneLine}
+use Rattle.gl_printed.specs.ReadCards.{IsFine}
 use Rattle.gl_printed.specs.PrintedLines.{is_end}
 use Rattle.gl_printed.specs.ReadDecks.{body_card, IsReadSub, IsReadDeck, sub_cards, cards_of}
-use Rattle.gl_printed.proofs.Each.{each_append, each_map, each_right, each_to, each_true}
+use Rattle.gl_lists.proofs.Each.{each_append, each_map, each_right, each_to, each_true}
 use Rattle.gl_printed.proofs.GlobalLaws.{lines_joined}
 
 each_sub : (P : Card → Type 0) (ss : List Sub) → AllByRecursion (λ s. AllByRecursion P (sub_cards s)) ss → AllByRecursion P (flat_map sub_cards ss)

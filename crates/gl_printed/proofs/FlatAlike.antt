@@ -1,8 +1,9 @@
 -- Flattening sees no line numbers.
 use Rattle.std.proofs.Common.{◌≡◌, ◌+◌, ℕ, zero, suc, List, [], ◌∷◌, ◌++◌, length, map, ltb, not, Option, Some, None, Result, Ok, Err, refl, sym, ap, ◌∙◌, subst, filter, find, flat_map, fold, option_map, codes, sum_by, unwrap_or, ◌↔◌}
 use Rattle.gl_text.specs.LogicalLines.{NAME, Fault, long_flat_name, too_many_cards, too_many_devices, too_deep, no_top, top_devices, long_text, same_text}
-use Rattle.gl_text.specs.Cards.{Head, Model, first_some, when, or_else}
-use Rattle.gl_text.specs.Decks.{◌>>=◌, Body, dev_at, call_at, Sub, Deck, is_in, find_sub, callees}
+use Rattle.gl_fault.specs.Refusals.{first_some, when, or_else, ◌>>=◌}
+use Rattle.gl_text.specs.Cards.{Head, Model}
+use Rattle.gl_text.specs.Decks.{Body, dev_at, call_at, Sub, Deck, is_in, find_sub, callees}
 use Rattle.gl_text.specs.Flattening.{DEPTH, CARDS, DEVICES, TEXT, FlatDevice, Place, Flat, top_place, top_net, inside, devices_of, flat_devices, size_of, sizes, one, one_device, at_depth, net, bearers, bearer_name, first_clash, chosen, top_ports, is_none_left, line_of_body, flat_text, flatten}
 use Rattle.gl_printed.specs.ReadDecks.{unnumbered_body, unnumbered_sub, unnumbered}
 use Rattle.gl_printed.proofs.Renumbered.{all_callees_bare, callees_bare, filter_bare, find_bare}

@@ -3,13 +3,12 @@ use Rattle.std.proofs.Common.{◌≡◌, ◌≤◌, ℕ, List, [], ◌∷◌, �
 use Rattle.std.specs.Prelude.{◌||◌}
 use Rattle.std.specs.List.{AllByRecursion, list_any}
 use Rattle.gl_text.specs.LogicalLines.{NAME, Fault, long_flat_name, name_clash, same_text}
-use Rattle.gl_text.specs.Cards.{first_some, when}
+use Rattle.gl_fault.specs.Refusals.{first_some, when}
 use Rattle.gl_text.specs.Decks.{is_in, has_twice}
 use Rattle.gl_text.specs.Flattening.{Net, FlatDevice, Bearer, device, net, net_name, device_name, bearers, bearer_name, clash, first_clash}
-use Rattle.gl_printed.proofs.Each.{each_left, each_right, each_to}
-use Rattle.gl_printed.proofs.Refusals.{none_first, when_none}
+use Rattle.gl_lists.proofs.Each.{each_left, each_right, each_to, each_unmap}
+use Rattle.gl_fault.proofs.FirstLaws.{none_first, when_none}
 use Rattle.gl_printed.proofs.NamesTwice.{twice_more}
-use Rattle.gl_printed.proofs.SameDecks.{each_unmap}
 
 -- ---- lengths
 

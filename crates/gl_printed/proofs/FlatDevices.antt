@@ -1,43 +1,33 @@
 -- Flat devices: what is known of each.
-use Rattle.std.proofs.Common.{◌≡◌, ℕ, zero, suc, List, [], ◌∷◌, ◌++◌, length, map, cond, eqb, true, false, Bool, Option, Some, None, refl, subst, find, zip, option_map, unwrap_or, flat_map}
+use Rattle.std.proofs.Common.{◌≡◌, ℕ, zero, suc, List, [], ◌∷◌, length, map, cond, true, false, Bool, Option, Some, None, refl, subst, find, zip, option_map, unwrap_or, flat_map}
 use Rattle.std.specs.Prelude.{option_to_list}
-use Rattle.std.specs.List.{AllByRecursion, join_with_byte}
+use Rattle.std.specs.List.{AllByRecursion}
 use Rattle.std.proofs.lemmas.List.{length-map}
 use Rattle.gl_text.specs.LogicalLines.{same_text}
-use Rattle.gl_text.specs.Cards.{Device, Call, dev, call, spaced}
+use Rattle.gl_text.specs.WayBack.{IsName}
+use Rattle.gl_text.specs.Cards.{Call, dev, call}
 use Rattle.gl_text.specs.Decks.{Body, dev_at, call_at, Sub, find_sub}
 use Rattle.gl_text.specs.Flattening.{Net, FlatDevice, Place, top_net, top_place, is_rail, net_of, inside, devices_of, flat_devices}
 use Rattle.gl_printed.specs.ReadCards.{IsFine}
 use Rattle.gl_printed.specs.ReadDecks.{body_card, IsReadSub}
-use Rattle.gl_printed.proofs.Each.{by_cond, each_append, each_left, each_map, each_to}
-use Rattle.gl_printed.proofs.DistinctNames.{some_is}
-use Rattle.gl_printed.proofs.GlobalLaws.{lines_joined}
+use Rattle.gl_lists.proofs.Each.{by_cond, each_append, each_left, each_map, each_to}
 use Rattle.gl_printed.proofs.PickedCards.{each_flat}
 use Rattle.gl_printed.proofs.CalledSubs.{inner}
-use Rattle.gl_printed.proofs.NameBytes.{IsPart, parts_of_names}
+use Rattle.std.proofs.lemmas.Option.{same_Some}
 
 pub record IsFlatNet (n : Net) : Type 0 where
-  pub path : AllByRecursion IsPart n.path
-  pub name : IsPart n.name
+  pub path : AllByRecursion IsName n.path
+  pub name : IsName n.name
 
 pub record IsFlatDevice (d : FlatDevice) : Type 0 where
-  pub path : AllByRecursion IsPart d.path
+  pub path : AllByRecursion IsName d.path
   pub card : IsFine (dev d.card)
   pub nets : AllByRecursion IsFlatNet d.nets
   pub as_many : length d.nets ≡ length d.card.nodes
 
 pub record IsPlace (p : Place) : Type 0 where
-  pub path : AllByRecursion IsPart p.path
+  pub path : AllByRecursion IsName p.path
   pub ports : AllByRecursion (λ q. IsFlatNet q.1) p.ports
-
--- ---- names of cards
-
-pub device_parts : (d : Device) → IsFine (dev d) → AllByRecursion IsPart (d.name ∷ d.nodes ++ option_to_list d.model)
-device_parts d h = let rest = d.nodes ++ option_to_list d.model in
-    parts_of_names (d.name ∷ rest) h.is_read.names (lines_joined d.name rest (each_left (λ b. eqb b 10 ≡ false) (join_with_byte 32 (d.name ∷ rest)) (spaced d.tail) h.one_line))
-
-call_parts : (c : Call) → IsFine (call c) → AllByRecursion IsPart (c.name ∷ c.nodes ++ c.sub ∷ [])
-call_parts c h = parts_of_names (c.name ∷ c.nodes ++ c.sub ∷ []) h.is_read.names (lines_joined c.name (c.nodes ++ c.sub ∷ []) h.one_line)
 
 -- ---- nets
 
@@ -45,10 +35,10 @@ found_holds : {X : Type 0} (P : X → Type 0) (t : X → Bool) (xs : List X) →
 found_holds P t [] h x e = absurd cc
 found_holds {X} P t (y ∷ ys) h x e = by (t y) (found_holds P t ys h.1 x) e where
   by : (b : Bool) → (find t ys ≡ Some x → P x) → cond b (Some y) (find t ys) ≡ Some x → P x
-  by true r e = subst P (some_is y x e) h.0
+  by true r e = subst P (same_Some y x e) h.0
   by false r e = r e
 
-net_flat : (rails : List (List ℕ)) (place : Place) (name : List ℕ) → IsPlace place → IsPart name → IsFlatNet (net_of rails place name)
+net_flat : (rails : List (List ℕ)) (place : Place) (name : List ℕ) → IsPlace place → IsName name → IsFlatNet (net_of rails place name)
 net_flat rails place name h p = by (find (λ (q : List ℕ × Net). same_text q.0 name) place.ports) (found_holds (λ (q : List ℕ × Net). IsFlatNet q.1) (λ (q : List ℕ × Net). same_text q.0 name) place.ports h.ports) where
   own : IsFlatNet (cond (is_rail rails name) (top_net name) (record { path = place.path; name = name }))
   own = by_cond IsFlatNet (is_rail rails name) (top_net name) (record { path = place.path; name = name }) (λ e. record { path = tt; name = p }) (λ e. record { path = h.path; name = p })
@@ -57,8 +47,8 @@ net_flat rails place name h p = by (find (λ (q : List ℕ × Net). same_text q.
   by None f = own
   by (Some q) f = f q refl
 
-nets_flat : (rails : List (List ℕ)) (place : Place) (names : List (List ℕ)) → IsPlace place → AllByRecursion IsPart names → AllByRecursion IsFlatNet (map (net_of rails place) names)
-nets_flat rails place names h p = each_map IsFlatNet (net_of rails place) names (each_to IsPart (λ n. IsFlatNet (net_of rails place n)) (λ n q. net_flat rails place n h q) names p)
+nets_flat : (rails : List (List ℕ)) (place : Place) (names : List (List ℕ)) → IsPlace place → AllByRecursion IsName names → AllByRecursion IsFlatNet (map (net_of rails place) names)
+nets_flat rails place names h p = each_map IsFlatNet (net_of rails place) names (each_to IsName (λ n. IsFlatNet (net_of rails place n)) (λ n q. net_flat rails place n h q) names p)
 
 each_zip : {X Y : Type 0} (P : Y → Type 0) (xs : List X) (ys : List Y) → AllByRecursion P ys → AllByRecursion (λ q. P q.1) (zip xs ys)
 each_zip P [] ys h = tt
@@ -75,16 +65,16 @@ Good inner = (p : Place) (cs : List Body) → IsPlace p → FineBodies cs → Al
 
 inside_place : (rails : List (List ℕ)) (place : Place) (c : Call) (s : Sub) → IsPlace place → IsFine (call c) → IsPlace (inside rails place c s)
 inside_place rails place c s h f =
-    let parts = call_parts c f in
+    let names = f.is_read.names in
     record {
-      path = each_append IsPart place.path (c.name ∷ []) h.path (parts.0, tt);
-      ports = each_zip IsFlatNet s.head.ports (map (net_of rails place) c.nodes) (nets_flat rails place c.nodes h (each_left IsPart c.nodes (c.sub ∷ []) parts.1));
+      path = each_append IsName place.path (c.name ∷ []) h.path (names.0, tt);
+      ports = each_zip IsFlatNet s.head.ports (map (net_of rails place) c.nodes) (nets_flat rails place c.nodes h (each_left IsName c.nodes (c.sub ∷ []) names.1));
     }
 
 card_flat : (rails : List (List ℕ)) (all subs : List Sub) → AllByRecursion (IsReadSub all) subs → (inner : Place → List Body → List FlatDevice) → Good inner → (place : Place) (b : Body) → IsPlace place → IsFine (body_card b) → AllByRecursion IsFlatDevice (devices_of rails subs inner place b)
 card_flat rails all subs r inner g place (dev_at line d) h f =
-    let parts = device_parts d f in
-    (record { path = h.path; card = f; nets = nets_flat rails place d.nodes h (each_left IsPart d.nodes (option_to_list d.model) parts.1); as_many = length-map d.nodes (net_of rails place) }, tt)
+    let names = f.is_read.names in
+    (record { path = h.path; card = f; nets = nets_flat rails place d.nodes h (each_left IsName d.nodes (option_to_list d.model) names.1); as_many = length-map d.nodes (net_of rails place) }, tt)
 card_flat rails all subs r inner g place (call_at line c) h f = by (find_sub subs c.sub) refl where
   by : (o : Option Sub) → find_sub subs c.sub ≡ o → AllByRecursion IsFlatDevice (devices_of rails subs inner place (call_at line c))
   by None e = rw e tt

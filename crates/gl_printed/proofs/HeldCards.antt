@@ -3,17 +3,18 @@ use Rattle.std.proofs.Common.{◌≡◌, ◌≤◌, ◌<◌, ◌+◌, ℕ, List,
 use Rattle.std.specs.Prelude.{◌&&◌}
 use Rattle.std.specs.List.{AllByRecursion}
 use Rattle.gl_text.specs.LogicalLines.{LINE, Fault, local_card, duplicate_port, zero_port, Line}
-use Rattle.gl_text.specs.Cards.{Head, Card, subckt, ends, card_of, no_card, has_parameters, has_long_tail, first_some, when, or_else}
+use Rattle.gl_fault.specs.Refusals.{first_some, when, or_else}
+use Rattle.gl_text.specs.Cards.{Head, Card, subckt, ends, card_of, no_card, has_parameters, has_long_tail}
 use Rattle.gl_text.specs.Decks.{Scope, Placed, scope_after, scope_behind, is_inside, is_of_top, nested, bad_ends, duplicate, has_twice, is_in, ports_of, place, placed_from}
 use Rattle.gl_text.proofs.CardLaws.{all_none}
-use Rattle.gl_printed.specs.ReadCards.{IsOneLine, IsFine}
-use Rattle.gl_printed.proofs.Each.{each_append, each_both, each_to}
-use Rattle.gl_printed.proofs.Refusals.{none_first, or_else_ok, when_none}
+use Rattle.gl_text.specs.WayBack.{IsOneLine}
+use Rattle.gl_printed.specs.ReadCards.{IsFine}
+use Rattle.gl_lists.proofs.Each.{each_both, each_to, each_push}
+use Rattle.gl_fault.proofs.FirstLaws.{none_first, or_else_ok, when_none, bind_ok}
 use Rattle.gl_printed.proofs.ReadCardLaws.{fine_again}
 use Rattle.gl_printed.proofs.DistinctNames.{NamesDiffer, differ_more, differ_none}
 use Rattle.gl_printed.proofs.PlacedCards.{placed}
 use Rattle.gl_printed.proofs.PlacingLaws.{faults, scope_one_more}
-use Rattle.gl_printed.proofs.Reading.{bind_ok}
 use Rattle.gl_printed.proofs.ReadLineLaws.{InOrder}
 
 -- ---- one card
@@ -93,9 +94,6 @@ held_none n l = record { fine = tt; ports_differ = tt; no_zero = tt; differ = di
 higher : (n m : ℕ) → n ≤ m → (p : Placed) → IsLow n p → IsLow m p
 higher n m l p h = let a = h.line in let b = h.scope in record { some = h.some; line = omega arith; scope = omega arith }
 
-one_more : (P : Placed → Type 0) (ps : List Placed) (p : Placed) → AllByRecursion P ps → P p → AllByRecursion P (ps ++ p ∷ [])
-one_more P ps p h i = each_append P ps (p ∷ []) h (i, tt)
-
 held_more : (n : ℕ) (ps : List Placed) (line : ℕ) (c : Card) → 1 ≤ n → n ≤ line → Held n ps → IsFine c → duplicate ps (placed (scope_behind ps) line c) ≡ None → has_twice (ports_of c) ≡ false → is_in (codes "0") (ports_of c) ≡ false
     → Held (line + 1) (ps ++ placed (scope_behind ps) line c ∷ [])
 held_more n ps line c a b h f d t z =
@@ -106,17 +104,17 @@ held_more n ps line c a b h f d t z =
     let low = h.behind_low in
     let old : AllByRecursion (λ (q : Placed). Agrees q s) ps = h.behind in
     record {
-      fine = one_more (λ (q : Placed). IsFine q.card) ps p h.fine f;
-      ports_differ = one_more (λ (q : Placed). has_twice (ports_of q.card) ≡ false) ps p h.ports_differ t;
-      no_zero = one_more (λ (q : Placed). is_in (codes "0") (ports_of q.card) ≡ false) ps p h.no_zero z;
+      fine = each_push (λ (q : Placed). IsFine q.card) ps p h.fine f;
+      ports_differ = each_push (λ (q : Placed). has_twice (ports_of q.card) ≡ false) ps p h.ports_differ t;
+      no_zero = each_push (λ (q : Placed). is_in (codes "0") (ports_of q.card) ≡ false) ps p h.no_zero z;
       differ = differ_more ps p h.differ d;
-      low = one_more (IsLow (line + 1)) ps p (each_to (IsLow n) (IsLow (line + 1)) (higher n (line + 1) (omega arith)) ps h.low) (record { some = omega arith; line = omega arith; scope = omega arith });
+      low = each_push (IsLow (line + 1)) ps p (each_to (IsLow n) (IsLow (line + 1)) (higher n (line + 1) (omega arith)) ps h.low) (record { some = omega arith; line = omega arith; scope = omega arith });
       behind_low = subst (λ (x : Scope). x.line < line + 1) (sym next) (after_low s line n c low b);
-      scopes = one_more (λ (q : Placed). AllByRecursion (λ (r : Placed). Agrees q r.scope) all) ps p
+      scopes = each_push (λ (q : Placed). AllByRecursion (λ (r : Placed). Agrees q r.scope) all) ps p
           (each_both (λ (q : Placed). AllByRecursion (λ (r : Placed). Agrees q r.scope) ps) (λ (q : Placed). Agrees q s) (λ (q : Placed). AllByRecursion (λ (r : Placed). Agrees q r.scope) all)
-          (λ q i j. one_more (λ (r : Placed). Agrees q r.scope) ps p i j) ps h.scopes old)
-          (one_more (λ (r : Placed). Agrees p r.scope) ps p (each_to (IsLow n) (λ (r : Placed). Agrees p r.scope) (λ r i k e g. absurd (let u = i.scope in omega arith)) ps h.low) (λ k e g. absurd (omega arith)));
-      behind = subst (λ x. AllByRecursion (λ (q : Placed). Agrees q x) all) (sym next) (one_more (λ (q : Placed). Agrees q (scope_after s line c)) ps p
+          (λ q i j. each_push (λ (r : Placed). Agrees q r.scope) ps p i j) ps h.scopes old)
+          (each_push (λ (r : Placed). Agrees p r.scope) ps p (each_to (IsLow n) (λ (r : Placed). Agrees p r.scope) (λ r i k e g. absurd (let u = i.scope in omega arith)) ps h.low) (λ k e g. absurd (omega arith)));
+      behind = subst (λ x. AllByRecursion (λ (q : Placed). Agrees q x) all) (sym next) (each_push (λ (q : Placed). Agrees q (scope_after s line c)) ps p
           (each_both (IsLow n) (λ (q : Placed). Agrees q s) (λ (q : Placed). Agrees q (scope_after s line c)) (λ q i j. let u = i.line in agree_old q s line c i.some (omega arith) j) ps h.low old) (agree_new s line c));
     }
 

@@ -1,23 +1,11 @@
 -- What the tables of kinds say.
 use Rattle.std.proofs.Common.{◌≡◌, ◌≤◌, ◌+◌, ℕ, List, [], ◌∷◌, ◌++◌, cond, eqb, true, false, Bool, refl, sym, ap, subst, arith, eqb-true, codes}
-use Rattle.std.specs.Prelude.{◌&&◌}
 use Rattle.std.specs.List.{AllByRecursion}
 use Rattle.gl_text.specs.LogicalLines.{same_text, first_field, fold_byte, is_separator}
 use Rattle.gl_text.specs.Cards.{Kind, device, caller, modelling, opening, closing, globals, ending, control, other, unknown, word_in, dot_words, by_byte, kinds, kind_of, is_unknown}
-use Rattle.gl_printed.proofs.Each.{by_cond}
+use Rattle.gl_lists.proofs.Each.{by_cond}
 use Rattle.gl_printed.proofs.Bytes.{IsStart, start_of_folded}
-
--- ---- texts that are the same
-
-same_by : (b : Bool) (x y : ℕ) (xs ys : List ℕ) → eqb x y ≡ b → (same_text xs ys ≡ true → xs ≡ ys) → (b && same_text xs ys) ≡ true → x ∷ xs ≡ y ∷ ys
-same_by true x y xs ys e ih h = let f = eqb-true x y e in let g = ih h in cc
-same_by false x y xs ys e ih h = absurd cc
-
-pub same_is : (xs ys : List ℕ) → same_text xs ys ≡ true → xs ≡ ys
-same_is [] [] h = refl
-same_is [] (y ∷ ys) h = absurd cc
-same_is (x ∷ xs) [] h = absurd cc
-same_is (x ∷ xs) (y ∷ ys) h = same_by (eqb x y) x y xs ys refl (same_is xs ys) h
+use Rattle.gl_text.proofs.Names.{exact}
 
 -- ---- the words behind a dot
 
@@ -38,7 +26,7 @@ Wanted _ f = Unit {0}
 
 word_elim : (P : Kind → List ℕ → Type 0) (ws : List (List ℕ × Kind)) (f : List ℕ) → AllByRecursion (λ w. w.0 ≡ f → P w.1 f) ws → P other f → P (word_in ws f) f
 word_elim P [] f h o = o
-word_elim P (w ∷ ws) f h o = by_cond (λ k. P k f) (same_text w.0 f) w.1 (word_in ws f) (λ e. h.0 (same_is w.0 f e)) (λ e. word_elim P ws f h.1 o)
+word_elim P (w ∷ ws) f h o = by_cond (λ k. P k f) (same_text w.0 f) w.1 (word_in ws f) (λ e. h.0 (exact w.0 f e)) (λ e. word_elim P ws f h.1 o)
 
 pub word_is : (f : List ℕ) → Wanted (word_in dot_words f) f
 word_is f = word_elim Wanted dot_words f ((λ e. sym e), ((λ e. sym e), ((λ e. sym e), ((λ e. sym e), ((λ e. sym e), ((λ e. tt), tt)))))) tt

@@ -2,9 +2,8 @@
 use Rattle.std.proofs.Common.{◌≡◌, ◌≤◌, ℕ, List, [], ◌∷◌, length, eqb, ltb, true, false, refl}
 use Rattle.std.specs.List.{AllByRecursion}
 use Rattle.gl_text.specs.LogicalLines.{NAME, is_separator, fold_byte, folded}
-use Rattle.gl_text.specs.WayBack.{IsName}
-use Rattle.gl_printed.specs.ReadCards.{IsOneLine}
-use Rattle.gl_printed.proofs.Each.{each_both, each_to}
+use Rattle.gl_text.specs.WayBack.{IsName, IsOneLine}
+use Rattle.gl_lists.proofs.Each.{each_to}
 
 pub record IsNameByte (b : ℕ) : Type 0 where
   pub plain : is_separator b ≡ false
@@ -14,17 +13,12 @@ pub record IsNameByte (b : ℕ) : Type 0 where
 abbrev pub OfName : List ℕ → Type 0
 OfName text = AllByRecursion IsNameByte text
 
--- a name of one line
-pub record IsPart (n : List ℕ) : Type 0 where
-  pub name : IsName n
-  pub line : IsOneLine n
-
 of_name : (n : List ℕ) → AllByRecursion (λ b. is_separator b ≡ false) n → folded n ≡ n → IsOneLine n → OfName n
 of_name [] p s l = tt
 of_name (b ∷ n) p s l = let e : fold_byte b ≡ b = cc in let f : folded n ≡ n = cc in (record { plain = p.0; small = e; line = l.0 }, of_name n p.1 f l.1)
 
-pub part_bytes : (n : List ℕ) → IsPart n → OfName n
-part_bytes n h = of_name n h.name.plain h.name.small h.line
+pub name_bytes : (n : List ℕ) → IsName n → OfName n
+name_bytes n h = of_name n h.plain h.small h.one_line
 
 bytes_plain : (n : List ℕ) → OfName n → AllByRecursion (λ b. is_separator b ≡ false) n
 bytes_plain = each_to IsNameByte (λ b. is_separator b ≡ false) (λ b h. h.plain)
@@ -37,8 +31,5 @@ bytes_small [] h = refl
 bytes_small (b ∷ n) h = let e = h.0.small in let f = bytes_small n h.1 in cc
 
 -- such a text that is neither empty nor too long is a name
-pub bytes_part : (n : List ℕ) → OfName n → ltb 0 (length n) ≡ true → length n ≤ NAME → IsPart n
-bytes_part n h s l = record { name = record { some = s; plain = bytes_plain n h; small = bytes_small n h; short = l }; line = bytes_line n h }
-
-pub parts_of_names : (ns : List (List ℕ)) → AllByRecursion IsName ns → AllByRecursion IsOneLine ns → AllByRecursion IsPart ns
-parts_of_names = each_both IsName IsOneLine IsPart (λ n h l. record { name = h; line = l })
+pub bytes_name : (n : List ℕ) → OfName n → ltb 0 (length n) ≡ true → length n ≤ NAME → IsName n
+bytes_name n h s l = record { some = s; one_line = bytes_line n h; plain = bytes_plain n h; small = bytes_small n h; short = l }

@@ -5,10 +5,11 @@ use Rattle.gl_text.specs.Cards.{Card, Model, dev, call, model, passed}
 use Rattle.gl_text.specs.Decks.{Body, dev_at, call_at, Scope, Placed, bodies, model_of, passed_of}
 use Rattle.gl_printed.specs.ReadCards.{IsFine}
 use Rattle.gl_printed.specs.ReadDecks.{body_card}
-use Rattle.gl_printed.proofs.Each.{each_append, each_to}
-use Rattle.gl_printed.proofs.DistinctNames.{body_in, none_is, some_is}
+use Rattle.gl_lists.proofs.Each.{each_append, each_to}
+use Rattle.gl_printed.proofs.DistinctNames.{body_in, none_is}
 use Rattle.gl_printed.proofs.PlacedCards.{placed}
 use Rattle.gl_printed.proofs.HeldCards.{Held}
+use Rattle.std.proofs.lemmas.Option.{same_Some}
 
 -- ---- what is picked of cards
 
@@ -30,15 +31,15 @@ not_here false y e = absurd cc
 -- ---- models, passed lines, devices and X cards
 
 pub model_picked : (s : Scope) (n : ℕ) (c : Card) → IsFine c → (m : Model) → model_of (placed s n c) ≡ Some m → IsFine (model m)
-model_picked s n (model d) h m e = subst (λ x. IsFine (model x)) (some_is d m e) h
+model_picked s n (model d) h m e = subst (λ x. IsFine (model x)) (same_Some d m e) h
 model_picked s n c h m e = none_is m e
 
 pub passed_picked : (s : Scope) (n : ℕ) (c : Card) → IsFine c → (t : List ℕ) → passed_of (placed s n c) ≡ Some t → IsFine (passed t)
-passed_picked s n (passed d) h m e = subst (λ x. IsFine (passed x)) (some_is d m e) h
+passed_picked s n (passed d) h m e = subst (λ x. IsFine (passed x)) (same_Some d m e) h
 passed_picked s n c h m e = none_is m e
 
 pub in_scope_is : {P : Type 0} (t : Bool) (b y : Body) → cond t (Some b) None ≡ Some y → (t ≡ true → b ≡ y → P) → P
-in_scope_is true b y e f = f refl (some_is b y e)
+in_scope_is true b y e f = f refl (same_Some b y e)
 in_scope_is false b y e f = none_is y e
 
 pub body_picked : (L : ℕ) (s : Scope) (n : ℕ) (c : Card) → IsFine c → (b : Body) → body_in L (placed s n c) ≡ Some b → IsFine (body_card b)

@@ -4,8 +4,9 @@ use Rattle.std.specs.Prelude.{◌&&◌}
 use Rattle.std.specs.List.{AllByRecursion}
 use Rattle.std.proofs.lemmas.List.Sums.{fold-append}
 use Rattle.gl_text.specs.LogicalLines.{Fault, local_card, duplicate_port, zero_port, Line}
-use Rattle.gl_text.specs.Cards.{Card, printed, card_of, has_parameters, has_long_tail, first_some, when, or_else}
-use Rattle.gl_text.specs.Decks.{Scope, Placed, scope_after, scope_behind, is_inside, is_of_top, nested, bad_ends, duplicate, has_twice, is_in, ports_of, place, placed_from, ◌>>=◌}
+use Rattle.gl_fault.specs.Refusals.{first_some, when, or_else, ◌>>=◌}
+use Rattle.gl_text.specs.Cards.{Card, printed, card_of, has_parameters, has_long_tail}
+use Rattle.gl_text.specs.Decks.{Scope, Placed, scope_after, scope_behind, is_inside, is_of_top, nested, bad_ends, duplicate, has_twice, is_in, ports_of, place, placed_from}
 use Rattle.gl_printed.specs.ReadCards.{IsFine}
 use Rattle.gl_printed.specs.PrintedLines.{numbered}
 use Rattle.gl_printed.proofs.Refusals.{read_as}

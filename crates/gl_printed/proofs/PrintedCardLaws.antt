@@ -4,8 +4,9 @@ use Rattle.std.specs.Prelude.{◌&&◌, ◌||◌, option_to_list}
 use Rattle.std.specs.List.{AllByRecursion, join_with_byte, list_any}
 use Rattle.std.proofs.lemmas.Bool.{or_parts}
 use Rattle.gl_text.specs.LogicalLines.{NAME, TAIL, long_tail, parameters, Line, Piece, is_blank, is_separator, fold_byte, folded, fields_of, head_bytes, tail_of}
-use Rattle.gl_text.specs.WayBack.{IsName}
-use Rattle.gl_text.specs.Cards.{Card, Model, Head, dev, call, model, subckt, ends, global, ended, passed, Kind, modelling, opening, closing, globals, other, kinds, by_byte, word_in, dot_words, kind_of, needs, names_of, tail_at, first_or, card_by, card_of, all_fields, no_card, no_card_by, has_parameters, has_nodes, has_long_tail, tail_fault, is_unknown, is_control, read_card, when, with_tail, spaced, printed}
+use Rattle.gl_text.specs.WayBack.{IsOneLine, IsName}
+use Rattle.gl_fault.specs.Refusals.{when}
+use Rattle.gl_text.specs.Cards.{Card, Model, Head, dev, call, model, subckt, ends, global, ended, passed, Kind, modelling, opening, closing, globals, other, kinds, by_byte, word_in, dot_words, kind_of, needs, names_of, tail_at, first_or, card_by, card_of, all_fields, no_card, no_card_by, has_parameters, has_nodes, has_long_tail, tail_fault, is_unknown, is_control, read_card, with_tail, spaced, printed}
 use Rattle.gl_text.proofs.CardLaws.{names_are, behind_is, short_names, all_none, device_again}
 use Rattle.gl_text.proofs.CallCardLaws.{call_again}
 use Rattle.gl_printed.specs.ReadCards.{IsRead, IsReadDevice, IsReadCall, IsReadModel, IsReadText, IsFine}
@@ -66,20 +67,20 @@ free_joined (n ∷ m ∷ ms) h = free_append n (32 ∷ join_with_byte 32 (m ∷ 
 
 -- ---- each kind
 
-named : (w : List ℕ) → ltb 0 (length w) ≡ true → AllByRecursion (λ b. is_separator b ≡ false) w → folded w ≡ w → length w ≤ NAME → IsName w
-named w a b c d = record { some = a; plain = b; small = c; short = d }
+named : (w : List ℕ) → ltb 0 (length w) ≡ true → AllByRecursion (λ b. is_separator b ≡ false) w → folded w ≡ w → length w ≤ NAME → IsOneLine w → IsName w
+named w a b c d l = record { some = a; one_line = l; plain = b; small = c; short = d }
 
 model_name : IsName (codes ".model")
-model_name = named (codes ".model") refl (refl, (refl, (refl, (refl, (refl, (refl, tt)))))) refl (omega arith)
+model_name = named (codes ".model") refl (refl, (refl, (refl, (refl, (refl, (refl, tt)))))) refl (omega arith) (refl, (refl, (refl, (refl, (refl, (refl, tt))))))
 
 subckt_name : IsName (codes ".subckt")
-subckt_name = named (codes ".subckt") refl (refl, (refl, (refl, (refl, (refl, (refl, (refl, tt))))))) refl (omega arith)
+subckt_name = named (codes ".subckt") refl (refl, (refl, (refl, (refl, (refl, (refl, (refl, tt))))))) refl (omega arith) (refl, (refl, (refl, (refl, (refl, (refl, (refl, tt)))))))
 
 global_name : IsName (codes ".global")
-global_name = named (codes ".global") refl (refl, (refl, (refl, (refl, (refl, (refl, (refl, tt))))))) refl (omega arith)
+global_name = named (codes ".global") refl (refl, (refl, (refl, (refl, (refl, (refl, (refl, tt))))))) refl (omega arith) (refl, (refl, (refl, (refl, (refl, (refl, (refl, tt)))))))
 
 ends_name : IsName (codes ".ends")
-ends_name = named (codes ".ends") refl (refl, (refl, (refl, (refl, (refl, tt))))) refl (omega arith)
+ends_name = named (codes ".ends") refl (refl, (refl, (refl, (refl, (refl, tt))))) refl (omega arith) (refl, (refl, (refl, (refl, (refl, tt)))))
 
 -- the fields of names that are joined
 joined_fields : (n : List ℕ) (ns : List (List ℕ)) → AllByRecursion IsName (n ∷ ns) → all_fields (join_with_byte 32 (n ∷ ns)) ≡ n ∷ ns

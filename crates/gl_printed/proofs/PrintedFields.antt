@@ -3,8 +3,8 @@ use Rattle.std.proofs.Common.{◌≡◌, ◌≤◌, ◌+◌, ◌*◌, ℕ, suc, 
 use Rattle.std.specs.List.{AllByRecursion, join_with_byte}
 use Rattle.gl_text.specs.LogicalLines.{NAME}
 use Rattle.gl_text.specs.Cards.{with_tail, spaced}
-use Rattle.gl_printed.specs.ReadCards.{IsOneLine}
-use Rattle.gl_printed.proofs.Each.{each_append}
+use Rattle.gl_text.specs.WayBack.{IsOneLine}
+use Rattle.gl_lists.proofs.Each.{each_append}
 
 abbrev Stays : ℕ → Type 0
 Stays b = eqb b 10 ≡ false

@@ -4,18 +4,19 @@ use Rattle.std.specs.Prelude.{◌&&◌, option_to_list}
 use Rattle.std.specs.List.{AllByRecursion, join_with_byte, onto_first}
 use Rattle.std.proofs.lemmas.Bool.{false_from_ne_true}
 use Rattle.gl_text.specs.LogicalLines.{LINE, long_line, Line, is_blank, is_separator, fold_byte, folded, fields_of, first_field, tail_of, trim_end, trim_front, same_text, begins, put_back, lines_of, trimmed_from, is_kept, grouped, joined, up_to_end, up_to_long, logical_of, kept_lines, logical_lines}
-use Rattle.gl_text.specs.WayBack.{IsName}
+use Rattle.gl_text.specs.WayBack.{IsName, IsOneLine}
 use Rattle.gl_text.specs.Cards.{Card, dev, call, model, subckt, ends, global, ended, passed, ending, unknown, kinds, by_byte, word_in, dot_words, kind_of, names_of, tail_at, card_by, card_of, all_fields, with_tail, printed, no_card}
 use Rattle.gl_text.specs.Decks.{line_of}
-use Rattle.gl_printed.specs.ReadCards.{IsOneLine, IsRead, IsFine}
+use Rattle.gl_printed.specs.ReadCards.{IsRead, IsFine}
 use Rattle.gl_printed.specs.PrintedLines.{is_end, numbered}
-use Rattle.gl_printed.proofs.Each.{each_append, each_to, filter_all}
+use Rattle.gl_lists.proofs.Each.{each_append, each_to, filter_all}
 use Rattle.gl_printed.proofs.Bytes.{Ends, IsStart, end_append, end_plain, normal_end, plain_no_blank}
 use Rattle.gl_printed.proofs.Fields.{first_field_is, run}
-use Rattle.gl_printed.proofs.KindTables.{same_is, start_is}
+use Rattle.gl_printed.proofs.KindTables.{start_is}
 use Rattle.gl_printed.proofs.Refusals.{has_card, read_as}
 use Rattle.gl_printed.proofs.FineByKind.{ended_fine}
 use Rattle.gl_printed.proofs.PrintedCardLaws.{card_again}
+use Rattle.gl_text.proofs.Names.{exact}
 
 -- ---- no blank at the end
 
@@ -98,7 +99,7 @@ goes_on_by l c [] n e i = absurd (let a = (has_card (record { line = l.line; tex
 goes_on_by l c (b ∷ bs) n e i = false_from_ne_true (same_text (first_field (b ∷ bs)) (codes ".end")) (λ t.
     let text = b ∷ bs in
     let p = (start_is b bs (has_card (record { line = l.line; text = text }) (kind_of text) (all_fields text) n).known).plain in
-    let f = ap is_end (sym (end_card text (end_kind b bs p (same_is (first_field text) (codes ".end") t))) ∙ e) in cc)
+    let f = ap is_end (sym (end_card text (end_kind b bs p (exact (first_field text) (codes ".end") t))) ∙ e) in cc)
 
 goes_on : (c : Card) → IsFine c → is_end c ≡ false → same_text (first_field (printed c)) (codes ".end") ≡ false
 goes_on c h i =

@@ -2,12 +2,13 @@
 use Rattle.std.proofs.Common.{◌≡◌, ◌≤◌, ℕ, List, [], ◌∷◌, ◌++◌, length, map, true, not, None, Ok, refl, sym, ap, ◌∙◌, subst, arith, codes, filter, flat_map, le-ltb}
 use Rattle.std.specs.List.{AllByRecursion}
 use Rattle.gl_text.specs.LogicalLines.{LINE, long_line, open_subckt, same_text, title_of, after_title, logical_lines}
-use Rattle.gl_text.specs.Cards.{Model, ended, first_some, when, or_else}
-use Rattle.gl_text.specs.Decks.{Body, Sub, Deck, Scope, Placed, top_scope, is_inside, placed_from, ◌>>=◌, once, deck_by, left_open, call_fault, file_lines, read_deck, line_of, deck_text}
+use Rattle.gl_fault.specs.Refusals.{first_some, when, or_else, ◌>>=◌}
+use Rattle.gl_text.specs.Cards.{Model, ended}
+use Rattle.gl_text.specs.Decks.{Body, Sub, Deck, Scope, Placed, top_scope, is_inside, placed_from, once, deck_by, left_open, call_fault, file_lines, read_deck, line_of, deck_text}
 use Rattle.gl_printed.specs.ReadCards.{IsFine}
 use Rattle.gl_printed.specs.PrintedLines.{numbered}
 use Rattle.gl_printed.specs.ReadDecks.{IsReadDeck, cards_of, unnumbered, ReadsBack}
-use Rattle.gl_printed.proofs.Each.{each_append}
+use Rattle.gl_lists.proofs.Each.{each_append}
 use Rattle.gl_printed.proofs.FineByKind.{ended_fine}
 use Rattle.gl_printed.proofs.PrintedLineLaws.{lines_again}
 use Rattle.gl_printed.proofs.DeckCards.{all_are, all_cards}
@@ -19,7 +20,8 @@ use Rattle.gl_printed.proofs.PlacingLaws.{Sits, placed_again}
 use Rattle.gl_printed.proofs.Reading.{finish}
 use Rattle.gl_printed.proofs.GlobalLaws.{globals_same}
 use Rattle.gl_printed.proofs.FineCards.{all_fine, all_go_on}
-use Rattle.gl_printed.proofs.SittingCards.{all_called, all_differ, all_sit, no_first}
+use Rattle.gl_fault.proofs.FirstLaws.{no_first}
+use Rattle.gl_printed.proofs.SittingCards.{all_called, all_differ, all_sit}
 
 -- ---- the same deck
 

@@ -4,12 +4,14 @@ use Rattle.std.specs.List.{AllByRecursion}
 use Rattle.gl_text.specs.LogicalLines.{LINE, TAIL, long_tail, Line, Piece, is_separator, fold_byte, fields_of, first_field, tail_of}
 use Rattle.gl_text.specs.Cards.{Card, Kind, device, caller, modelling, opening, closing, globals, ending, control, other, unknown, kinds, by_byte, kind_of, names_of, tail_at, behind, first_or, card_by, card_of, all_fields, first_byte, no_card_by, read_card}
 use Rattle.gl_text.proofs.TailLaws.{tail_again}
-use Rattle.gl_printed.specs.ReadCards.{IsOneLine, IsFine}
-use Rattle.gl_printed.proofs.Each.{each_take}
+use Rattle.gl_text.specs.WayBack.{IsOneLine}
+use Rattle.gl_printed.specs.ReadCards.{IsFine}
+use Rattle.gl_lists.proofs.Each.{each_take}
 use Rattle.gl_printed.proofs.Bytes.{each_tail}
 use Rattle.gl_printed.proofs.Fields.{Holds, IsWord, fields_hold, fields_lines, fields_words, first_field_is, first_is}
 use Rattle.gl_printed.proofs.KindTables.{Shaped, kind_shaped, letter_is, start_is, word_wanted}
-use Rattle.gl_printed.proofs.Refusals.{HasCard, has_card, read_as, when_none}
+use Rattle.gl_fault.proofs.FirstLaws.{when_none}
+use Rattle.gl_printed.proofs.Refusals.{HasCard, has_card, read_as}
 use Rattle.gl_printed.proofs.FineByKind.{IsTail, call_fine, device_fine, ended_fine, ends_fine, fields_are, global_fine, kind_end, model_fine, passed_fine, subckt_fine}
 
 each_behind : (Q : ℕ → Type 0) (k : ℕ) (ps : List Piece) → AllByRecursion (Holds Q) ps → AllByRecursion Q (behind k ps)

@@ -2,15 +2,17 @@
 use Rattle.std.proofs.Common.{◌≡◌, ◌≤◌, ◌+◌, ℕ, List, [], ◌∷◌, length, take, map, cond, eqb, ltb, true, false, not, Bool, Some, None, Result, Ok, refl, sym, ap, ◌∙◌, subst, arith, codes, filter_map, flat_map, ltb-false, one-add}
 use Rattle.std.specs.List.{AllByRecursion, position_or_len}
 use Rattle.gl_text.specs.LogicalLines.{LINE, Fault, long_line, Line, same_text, title_of, after_title}
-use Rattle.gl_text.specs.Cards.{Model, model, global, passed, first_some, or_else}
-use Rattle.gl_text.specs.Decks.{Body, Sub, Deck, Placed, has_twice, placed_from, ◌>>=◌, model_of, sub_of, passed_of, globals_of, once, deck_by, left_open, call_fault, title_fault, file_lines, read_deck}
-use Rattle.gl_printed.specs.ReadCards.{IsOneLine, IsFine}
+use Rattle.gl_fault.specs.Refusals.{first_some, or_else, ◌>>=◌}
+use Rattle.gl_text.specs.Cards.{Model, model, global, passed}
+use Rattle.gl_text.specs.Decks.{Body, Sub, Deck, Placed, has_twice, placed_from, model_of, sub_of, passed_of, globals_of, once, deck_by, left_open, call_fault, title_fault, file_lines, read_deck}
+use Rattle.gl_text.specs.WayBack.{IsOneLine}
+use Rattle.gl_printed.specs.ReadCards.{IsFine}
 use Rattle.gl_printed.specs.ReadDecks.{IsTitle, FindsSub, IsReadDeck}
-use Rattle.gl_printed.proofs.Each.{each_filter, each_to}
+use Rattle.gl_lists.proofs.Each.{each_filter, each_to}
 use Rattle.gl_printed.proofs.Bytes.{each_end, twice_by}
-use Rattle.gl_printed.proofs.Refusals.{none_first, or_else_ok, when_none}
+use Rattle.gl_fault.proofs.FirstLaws.{none_first, or_else_ok, when_none, bind_ok}
 use Rattle.gl_printed.proofs.DistinctNames.{body_in}
-use Rattle.gl_printed.proofs.Reading.{bind_ok, finish}
+use Rattle.gl_printed.proofs.Reading.{finish}
 use Rattle.gl_printed.proofs.ReadLineLaws.{InOrder, lines_in_order}
 use Rattle.gl_printed.proofs.HeldCards.{Held, cards_held}
 use Rattle.gl_printed.proofs.GlobalLaws.{card_globals, differ_filter, each_once, no_zero_left, once_differ}

@@ -3,8 +3,8 @@ use Rattle.std.proofs.Common.{◌≡◌, ◌≤◌, ◌+◌, ℕ, List, [], ◌�
 use Rattle.std.specs.List.{AllByRecursion, onto_first}
 use Rattle.gl_text.specs.LogicalLines.{LINE, Fault, long_line, Line, is_blank, trim_end, trim_front, same_text, first_field, lines_of, trimmed_from, is_kept, is_more, grouped, joined, up_to_end, up_to_long, logical_of, kept_lines, logical_lines}
 use Rattle.std.specs.Prelude.{codes}
-use Rattle.gl_printed.specs.ReadCards.{IsOneLine}
-use Rattle.gl_printed.proofs.Each.{by_cond, each_append, each_drop}
+use Rattle.gl_text.specs.WayBack.{IsOneLine}
+use Rattle.gl_lists.proofs.Each.{by_cond, each_append, each_drop}
 use Rattle.gl_printed.proofs.Bytes.{each_end, each_front}
 
 abbrev Stays : ℕ → Type 0

@@ -5,12 +5,13 @@ use Rattle.gl_text.specs.Cards.{Card, Head, dev, call, model, subckt, ends, glob
 use Rattle.gl_text.specs.Decks.{Body, Sub, Scope, Placed, has_twice, is_in, ports_of, bodies, sub_of, call_fault}
 use Rattle.gl_printed.specs.ReadCards.{IsFine}
 use Rattle.gl_printed.specs.ReadDecks.{FindsSubWithin, IsReadSub}
-use Rattle.gl_printed.proofs.Each.{each_both, each_to}
-use Rattle.gl_printed.proofs.DistinctNames.{body_in, head_name, head_of, names_by, none_is, some_is}
+use Rattle.gl_lists.proofs.Each.{each_both, each_to}
+use Rattle.gl_printed.proofs.DistinctNames.{body_in, head_name, head_of, names_by, none_is}
 use Rattle.gl_printed.proofs.PlacedCards.{placed}
 use Rattle.gl_printed.proofs.HeldCards.{Agrees, Held, IsLow}
 use Rattle.gl_printed.proofs.PickedCards.{bodies_fine, each_picked}
 use Rattle.gl_printed.proofs.CalledSubs.{inner_call}
+use Rattle.std.proofs.lemmas.Option.{same_Some}
 
 abbrev pub Unrefused : List Sub → List Placed → Type 0
 Unrefused subs cards = AllByRecursion (λ p. call_fault subs p ≡ None) cards
@@ -31,7 +32,7 @@ sub_read m cards subs h u s n (subckt d) f l a p z t e =
       calls = each_picked (FindsSubWithin subs d.name) (body_in n) cards (each_both (λ (q : Placed). Agrees (placed s n (subckt d)) q.scope) (λ q. call_fault subs q ≡ None) (λ q. (b : Body) → body_in n q ≡ Some b → FindsSubWithin subs d.name b)
           (λ q i j. inner_call subs n d.name q.scope q.line q.card l (λ k. i d refl k) j) cards a u);
     } in
-    subst (IsReadSub subs) (some_is made t e) good
+    subst (IsReadSub subs) (same_Some made t e) good
 sub_read m cards subs h u s n (ends d) f l a p z t e = none_is t e
 sub_read m cards subs h u s n (global d) f l a p z t e = none_is t e
 sub_read m cards subs h u s n ended f l a p z t e = none_is t e

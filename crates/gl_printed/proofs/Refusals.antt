@@ -1,20 +1,10 @@
 -- What is known where there is no refusal.
-use Rattle.std.proofs.Common.{◌≡◌, ◌≤◌, ℕ, List, [], ◌∷◌, length, map, ltb, true, false, Bool, Option, Some, None, Ok, refl, ltb-false}
+use Rattle.std.proofs.Common.{◌≡◌, ◌≤◌, ℕ, List, [], ◌∷◌, length, map, ltb, false, None, Ok, ltb-false}
 use Rattle.std.specs.List.{AllByRecursion}
-use Rattle.gl_text.specs.LogicalLines.{NAME, Fault, long_name, unknown_card, short_card, control_block, Line}
-use Rattle.gl_text.specs.Cards.{Card, Kind, needs, names_of, is_unknown, is_control, first_some, when, no_card, no_card_by, has_parameters, has_long_tail, card_of, read_card, or_else, first_byte}
-
-pub none_first : (o : Option Fault) (os : List (Option Fault)) → first_some (o ∷ os) ≡ None → (o ≡ None) × (first_some os ≡ None)
-none_first None os h = (refl, h)
-none_first (Some f) os h = absurd cc
-
-pub when_none : (b : Bool) (f : Fault) → when b f ≡ None → b ≡ false
-when_none true f h = absurd cc
-when_none false f h = refl
-
-pub or_else_ok : {A : Type 0} (o : Option Fault) (x y : A) → or_else o x ≡ Ok y → (o ≡ None) × (x ≡ y)
-or_else_ok None x y h = (refl, cc)
-or_else_ok (Some f) x y h = absurd cc
+use Rattle.gl_fault.proofs.FirstLaws.{none_first, when_none, or_else_ok}
+use Rattle.gl_text.specs.LogicalLines.{NAME, long_name, unknown_card, short_card, control_block, Line}
+use Rattle.gl_fault.specs.Refusals.{first_some, when}
+use Rattle.gl_text.specs.Cards.{Card, Kind, needs, names_of, is_unknown, is_control, no_card, no_card_by, has_parameters, has_long_tail, card_of, read_card, first_byte}
 
 -- a line is read as a card
 pub record IsReadAs (l : Line) (c : Card) : Type 0 where

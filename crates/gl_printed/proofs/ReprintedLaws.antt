@@ -3,9 +3,10 @@ use Rattle.std.proofs.Common.{◌≡◌, ℕ, List, [], ◌∷◌, ◌++◌, map
 use Rattle.gl_text.specs.LogicalLines.{Fault}
 use Rattle.gl_text.specs.Cards.{subckt, ends, global, model, passed, ended}
 use Rattle.gl_text.specs.Flattening.{flat_text, flatten, flat_of, flat_job}
-use Rattle.gl_text.specs.Decks.{◌>>=◌, Body, dev_at, call_at, Sub, Deck, body_line, sub_text, line_of, read_deck, deck_text}
+use Rattle.gl_fault.specs.Refusals.{◌>>=◌}
+use Rattle.gl_text.specs.Decks.{Body, dev_at, call_at, Sub, Deck, body_line, sub_text, line_of, read_deck, deck_text}
 use Rattle.gl_printed.specs.ReadDecks.{unnumbered_body, unnumbered_sub, unnumbered, reprinted}
-use Rattle.gl_printed.proofs.Reading.{bind_ok}
+use Rattle.gl_fault.proofs.FirstLaws.{bind_ok}
 use Rattle.gl_printed.proofs.ReadDeckLaws.{read_fine}
 use Rattle.gl_printed.proofs.ReadBackLaws.{read_back}
 use Rattle.gl_printed.proofs.FlatAlike.{alike}

@@ -5,13 +5,9 @@ use Rattle.gl_text.specs.Cards.{Model, global, model, passed}
 use Rattle.gl_text.specs.Decks.{Body, dev_at, call_at, Sub, Deck, has_twice, is_in, deck_text}
 use Rattle.gl_printed.specs.ReadCards.{IsFine}
 use Rattle.gl_printed.specs.ReadDecks.{body_card, body_name, IsTitle, AllDiffer, FindsSub, FindsSubWithin, IsReadSub, IsReadDeck, unnumbered_body, unnumbered_sub, unnumbered, ReadsBack}
-use Rattle.gl_printed.proofs.Each.{each_map, each_to}
+use Rattle.gl_lists.proofs.Each.{each_map, each_to, each_unmap}
 use Rattle.gl_printed.proofs.Renumbered.{Same, same_call}
 use Rattle.gl_printed.proofs.ReadDeckLaws.{read_fine}
-
-pub each_unmap : {X Y : Type 0} (P : Y → Type 0) (f : X → Y) (xs : List X) → AllByRecursion P (map f xs) → AllByRecursion (λ x. P (f x)) xs
-each_unmap P f [] h = tt
-each_unmap P f (x ∷ xs) h = (h.0, each_unmap P f xs h.1)
 
 -- what holds of items holds of others that look the same
 each_carried : {X : Type 0} (bare : X → X) (P Q R : X → Type 0) → ((x : X) → P x → Q (bare x)) → ((x : X) → Q (bare x) → R x) → (xs ys : List X) → map bare xs ≡ map bare ys → AllByRecursion P xs → AllByRecursion R ys

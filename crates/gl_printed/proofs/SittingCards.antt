@@ -1,20 +1,19 @@
 -- The cards of a deck as it is read are not refused where they are placed.
-use Rattle.std.proofs.Common.{◌≡◌, ◌≤◌, ℕ, List, [], ◌∷◌, map, ltb, true, false, Bool, Option, Some, None, refl, ap, ◌∙◌, arith, lt-ltb}
+use Rattle.std.proofs.Common.{◌≡◌, ◌≤◌, ℕ, List, [], ◌∷◌, map, ltb, true, false, Bool, Some, None, refl, ap, ◌∙◌, arith, lt-ltb}
 use Rattle.std.specs.Prelude.{◌&&◌}
 use Rattle.std.specs.List.{AllByRecursion}
-use Rattle.gl_text.specs.LogicalLines.{Fault}
-use Rattle.gl_text.specs.Cards.{model, subckt, ends, global, passed, first_some}
+use Rattle.gl_text.specs.Cards.{model, subckt, ends, global, passed}
 use Rattle.gl_text.specs.Decks.{Body, dev_at, call_at, Sub, Deck, Scope, top_scope, is_inside, has_twice, call_fault}
 use Rattle.gl_printed.specs.ReadDecks.{body_card, body_name, AllDiffer, FindsSub, FindsSubWithin, IsReadSub, IsReadDeck}
-use Rattle.gl_printed.proofs.Each.{each_to, each_true}
+use Rattle.gl_lists.proofs.Each.{each_to, each_true}
 use Rattle.gl_printed.proofs.DeckCards.{all_cards}
-use Rattle.gl_printed.proofs.NamesTwice.{same_self}
 use Rattle.gl_printed.proofs.DistinctNames.{NamesDiffer, head_name, model_name}
 use Rattle.gl_printed.proofs.Renumbered.{Same}
 use Rattle.gl_printed.proofs.PlacedCards.{Parts, heads_again, inside, models_again, placed, placing}
 use Rattle.gl_printed.proofs.ScopedCards.{scopes_differ}
 use Rattle.gl_printed.proofs.PlacingLaws.{Sits}
 use Rattle.gl_printed.proofs.CalledSubs.{inner_called, top_called}
+use Rattle.gl_text.proofs.Names.{itself}
 
 -- ---- each card sits where it is placed
 
@@ -34,7 +33,7 @@ head_sits subs n s h = record { outside = refl; closes = refl; not_local = refl;
 close_sits : (n m : ℕ) → 1 ≤ n → (name : List ℕ) → Sits (placed (inside n name) m (ends (Some name)))
 close_sits n m l name =
     let a : ltb 0 n ≡ true = lt-ltb 0 n l in
-    record { outside = refl; closes = rw (a, same_self name) refl; not_local = rw a refl; ports_differ = refl; no_zero = refl }
+    record { outside = refl; closes = rw (a, itself name) refl; not_local = rw a refl; ports_differ = refl; no_zero = refl }
 
 pub all_sit : (d : Deck) → IsReadDeck d → Parts Sits d
 all_sit d h = record {
@@ -75,7 +74,3 @@ all_called d ts h e = record {
   passed = λ n. each_true (λ t. call_fault ts (placed top_scope n (passed t)) ≡ None) (λ t. refl) d.passed;
   last = λ n. refl;
 }
-
-pub no_first : {X : Type 0} (f : X → Option Fault) (xs : List X) → AllByRecursion (λ x. f x ≡ None) xs → first_some (map f xs) ≡ None
-no_first f [] h = refl
-no_first f (x ∷ xs) h = ap (λ o. first_some (o ∷ map f xs)) h.0 ∙ no_first f xs h.1

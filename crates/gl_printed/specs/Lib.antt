@@ -2,4 +2,3 @@ pub mod ReadCards
 pub mod PrintedLines
 pub mod ReadDecks
 pub mod FlatDecks
-pub mod WorkedDecks

@@ -1,13 +1,9 @@
 -- Cards as they are read: what each kind of card keeps of the line that it was read from.
-use Rattle.std.specs.Prelude.{◌≡◌, ◌≤◌, ◌==◌, ℕ, false, List, [], ◌∷◌, ◌++◌, length, option_to_list}
+use Rattle.std.specs.Prelude.{◌≡◌, ◌≤◌, ℕ, List, [], ◌∷◌, ◌++◌, length, option_to_list}
 use Rattle.std.specs.List.{AllByRecursion}
 use Rattle.gl_text.specs.LogicalLines.{LINE, TAIL, is_blank, trim_end, tail_of}
 use Rattle.gl_text.specs.Cards.{Device, Call, Model, Card, dev, call, model, subckt, ends, global, ended, passed, Kind, caller, other, IsDeviceCard, kinds, by_byte, kind_of, first_byte, printed}
-use Rattle.gl_text.specs.WayBack.{IsName}
-
--- a text holds no newline
-abbrev pub IsOneLine : List ℕ → Type 0
-IsOneLine text = AllByRecursion (λ b. (b == 10) ≡ false) text
+use Rattle.gl_text.specs.WayBack.{IsName, IsOneLine}
 
 -- a device has the nodes and the model that its letter demands; its tail is normal and short
 pub record IsReadDevice (d : Device) : Type 0 where

@@ -3,8 +3,10 @@ use Rattle.std.specs.Prelude.{◌≡◌, ◌≤◌, ◌==◌, ℕ, Bool, true, f
 use Rattle.std.specs.List.{AllByRecursion}
 use Rattle.gl_text.specs.LogicalLines.{LINE, Fault, trim_end}
 use Rattle.gl_text.specs.Cards.{Call, Card, dev, call, model, subckt, ends, global, passed}
-use Rattle.gl_text.specs.Decks.{◌>>=◌, Body, dev_at, call_at, Sub, Deck, is_in, has_twice, find_sub, reaches, read_deck, deck_text}
-use Rattle.gl_printed.specs.ReadCards.{IsOneLine, IsFine}
+use Rattle.gl_fault.specs.Refusals.{◌>>=◌}
+use Rattle.gl_text.specs.Decks.{Body, dev_at, call_at, Sub, Deck, is_in, has_twice, find_sub, reaches, read_deck, deck_text}
+use Rattle.gl_text.specs.WayBack.{IsOneLine}
+use Rattle.gl_printed.specs.ReadCards.{IsFine}
 
 -- a device or an X card of a deck, as a card
 abbrev pub body_card : Body → Card

@@ -4,7 +4,8 @@ ghost use Rattle.gl_text.specs.LogicalLines.{LINE, Line, logical_lines};
 ghost use Rattle.gl_text.specs.Cards.{Card, ended, printed, read_card};
 ghost use Rattle.gl_text.specs.Decks.{Deck, deck_text, line_of, read_deck};
 ghost use Rattle.gl_text.specs.Flattening.{Flat, flat_job, flat_of, flat_text, flatten};
-ghost use Rattle.gl_printed.specs.ReadCards.{IsFine, IsOneLine};
+ghost use Rattle.gl_text.specs.WayBack.{IsOneLine};
+ghost use Rattle.gl_printed.specs.ReadCards.{IsFine};
 ghost use Rattle.gl_printed.specs.ReadDecks.{IsReadDeck, ReadsBack, cards_of, reprinted, unnumbered};
 ghost use Rattle.gl_printed.specs.FlatDecks.{AreRails, FlatReadsBack, deck_of};
 ghost use Rattle.gl_printed.specs.PrintedLines.{is_end, numbered};
@@ -47,6 +48,11 @@ pub fn decks_that_read_back_are_fine()
 pub fn read_decks_are_fine()
     ensures are_fine { (has_title : Bool) (bytes : List ℕ) (deck : Deck)
         → read_deck has_title bytes ≡ Ok deck → IsReadDeck deck }
+{}
+
+/// The globals of a deck as it is read can be the rails of its flat deck.
+pub fn globals_are_rails()
+    ensures are_rails { (deck : Deck) → IsReadDeck deck → AreRails deck.globals }
 {}
 
 /// What was read, with or without a title, reads back when it is printed: the same deck, line numbers aside.

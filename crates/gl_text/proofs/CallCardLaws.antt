@@ -6,7 +6,8 @@ use Rattle.std.proofs.lemmas.List.{append-nil, length-append}
 use Rattle.std.proofs.lemmas.Bool.{le-ltb, or_parts}
 use Rattle.gl_text.specs.LogicalLines.{parameters, Line, is_blank, is_separator, fields_of}
 use Rattle.gl_text.specs.WayBack.{IsName, IsCall}
-use Rattle.gl_text.specs.Cards.{call, caller, kind_of, card_of, card_by, read_card, printed, when, names_of, tail_at, all_fields, no_card, no_card_by, has_parameters, has_nodes, has_long_tail, tail_fault, but_last, last_name}
+use Rattle.gl_fault.specs.Refusals.{when}
+use Rattle.gl_text.specs.Cards.{call, caller, kind_of, card_of, card_by, read_card, printed, names_of, tail_at, all_fields, no_card, no_card_by, has_parameters, has_nodes, has_long_tail, tail_fault, but_last, last_name}
 use Rattle.gl_text.proofs.CardLaws.{names_are, short_names, all_none, kind_is}
 
 abbrev NoEqual : List ℕ → Type 0

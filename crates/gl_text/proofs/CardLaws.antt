@@ -7,7 +7,8 @@ use Rattle.std.proofs.lemmas.List.{append-nil, length-append}
 use Rattle.std.proofs.lemmas.Bool.{le-ltb}
 use Rattle.gl_text.specs.LogicalLines.{NAME, TAIL, Fault, long_name, long_tail, parameters, first_field, Line, Piece, is_separator, onto, pieces_of, is_field, fields_of, folded, fold_byte, tail_of}
 use Rattle.gl_text.specs.WayBack.{IsName, IsDevice}
-use Rattle.gl_text.specs.Cards.{Card, dev, Kind, device, kinds, by_byte, kind_of, word_in, dot_words, behind, card_of, card_by, read_card, with_tail, printed, first_some, when, names_of, tail_at, front, all_fields, spaced, no_card, no_card_by, has_parameters, has_nodes, has_long_tail, tail_fault, or_else}
+use Rattle.gl_fault.specs.Refusals.{first_some, when, or_else}
+use Rattle.gl_text.specs.Cards.{Card, dev, Kind, device, kinds, by_byte, kind_of, word_in, dot_words, behind, card_of, card_by, read_card, with_tail, printed, names_of, tail_at, front, all_fields, spaced, no_card, no_card_by, has_parameters, has_nodes, has_long_tail, tail_fault}
 
 -- ---- names
 

@@ -6,23 +6,14 @@ use Rattle.std.proofs.lemmas.Bool.{eqb-true, cases_Bool}
 use Rattle.gl_text.specs.LogicalLines.{same_text}
 use Rattle.gl_text.specs.Levels.{Down}
 use Rattle.gl_text.specs.Decks.{Sub, callees, is_in, step, steps, reaches}
-
-same_by : (b : Bool) (x y : ℕ) (xs ys : List ℕ) → eqb x y ≡ b → (same_text xs ys ≡ true → xs ≡ ys) → (b && same_text xs ys) ≡ true → x ∷ xs ≡ y ∷ ys
-same_by true x y xs ys e ih h = let f = eqb-true x y e in let g = ih h in cc
-same_by false x y xs ys e ih h = absurd cc
-
-same_is : (xs ys : List ℕ) → same_text xs ys ≡ true → xs ≡ ys
-same_is [] [] h = refl
-same_is [] (y ∷ ys) h = absurd cc
-same_is (x ∷ xs) [] h = absurd cc
-same_is (x ∷ xs) (y ∷ ys) h = same_by (eqb x y) x y xs ys refl (same_is xs ys) h
+use Rattle.gl_text.proofs.Names.{exact}
 
 -- a name that is among names of at most m has at most m
 abbrev Low : (List ℕ → ℕ) → ℕ → List (List ℕ) → Type 0
 Low level m names = AllByRecursion (λ n. level n ≤ m) names
 
 low_by : (level : List ℕ → ℕ) (m : ℕ) (name n : List ℕ) (ns : List (List ℕ)) (b : Bool) → same_text name n ≡ b → level n ≤ m → (is_in name ns ≡ true → level name ≤ m) → (b || is_in name ns) ≡ true → level name ≤ m
-low_by level m name n ns true e low ih h = let f = same_is name n e in rw f low
+low_by level m name n ns true e low ih h = let f = exact name n e in rw f low
 low_by level m name n ns false e low ih h = ih h
 
 low_in : (level : List ℕ → ℕ) (m : ℕ) (name : List ℕ) (ns : List (List ℕ)) → Low level m ns → is_in name ns ≡ true → level name ≤ m
@@ -74,7 +65,7 @@ found_low : (level : List ℕ → ℕ) (m : ℕ) (name : List ℕ) (found : List
 found_low level m name [] h e = absurd cc
 found_low level m name (s ∷ found) h e = by (same_text s.head.name name) refl e (λ g. found_low level m name found h.1 g) where
   by : (b : Bool) → same_text s.head.name name ≡ b → (b || list_any (λ (u : Sub). same_text u.head.name name) found) ≡ true → (list_any (λ (u : Sub). same_text u.head.name name) found ≡ true → level name ≤ m) → level name ≤ m
-  by true f g ih = let i = same_is s.head.name name f in rw (← i) h.0
+  by true f g ih = let i = exact s.head.name name f in rw (← i) h.0
   by false f g ih = ih g
 
 -- T is below S, so T does not reach S

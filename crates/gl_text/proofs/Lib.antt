@@ -1,3 +1,5 @@
+pub mod Names
+pub mod Trims
 pub mod CallCardLaws
 pub mod CardLaws
 pub mod LevelLaws

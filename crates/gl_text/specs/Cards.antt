@@ -1,6 +1,7 @@
 -- One card.
 use Rattle.std.specs.Prelude.{◌≡◌, ℕ, zero, suc, ◌==◌, ◌&&◌, nat_lt, Bool, true, false, List, [], ◌∷◌, ◌++◌, length, take, drop, map, Option, Some, None, Result, Ok, Err, codes, slice_get, option_to_list, if◌then◌else◌}
 use Rattle.std.specs.List.{join_with_byte, list_any}
+use Rattle.gl_fault.specs.Refusals.{first_some, when, or_else}
 use Rattle.gl_text.specs.LogicalLines.{NAME, TAIL, Fault, long_name, unknown_card, short_card, control_block, parameters, long_tail, Piece, fields_of, first_field, fold_byte, folded, is_blank, trim_end, tail_of, same_text, Line}
 
 -- M, D, R, C, L, V and I cards; the letter is the name's first byte
@@ -140,16 +141,6 @@ card_of text = card_by (kind_of text) (names_of (kind_of text) (all_fields text)
 
 -- ---- refusals
 
--- the first refusal among some
-abbrev pub first_some : List (Option Fault) → Option Fault
-first_some [] = None
-first_some (None ∷ os) = first_some os
-first_some (Some f ∷ os) = Some f
-
--- a refusal, where a test is met
-abbrev pub when : Bool → Fault → Option Fault
-when test f = if test then Some f else None
-
 -- the first byte begins no card
 abbrev pub is_unknown : Kind → Bool
 is_unknown unknown = true
@@ -194,11 +185,6 @@ tail_fault line tail = when (nat_lt TAIL (length tail)) (long_tail line (length 
 -- the tail of a line is too long
 abbrev pub has_long_tail : Line → Option Fault
 has_long_tail l = tail_fault l.line (tail_at (kind_of l.text) (fields_of l.text))
-
--- what is given, unless it is refused
-abbrev pub or_else : {A : Type 0} → Option Fault → A → Result A Fault
-or_else None x = Ok x
-or_else (Some f) x = Err f
 
 -- the card of a line, or the lowest of 3, 4, 5, 6, 12 and 16
 abbrev pub read_card : Line → Result Card Fault

@@ -2,13 +2,8 @@
 use Rattle.std.specs.Prelude.{ℕ, zero, suc, ◌==◌, ◌||◌, ◌&&◌, not, nat_lt, Bool, true, false, List, [], ◌∷◌, ◌++◌, length, map, filter, flat_map, filter_map, fold, find, Option, Some, None, option_map, Result, Ok, Err, codes, if◌then◌else◌}
 use Rattle.std.specs.List.{list_any}
 use Rattle.gl_text.specs.LogicalLines.{LINE, Fault, long_line, nested_subckt, loose_ends, wrong_ends, open_subckt, local_card, duplicate_name, duplicate_port, zero_port, unknown_subckt, wrong_node_count, recursive, same_text, title_of, after_title, Line, logical_lines}
-use Rattle.gl_text.specs.Cards.{Device, Call, Model, Head, Card, dev, call, model, subckt, ends, global, ended, passed, first_some, when, or_else, no_card, has_parameters, has_long_tail, card_of, printed}
-
--- what follows an accepted value; the first refusal stays
-infixl 10 ◌>>=◌
-abbrev pub ◌>>=◌ : {A B : Type 0} → Result A Fault → (A → Result B Fault) → Result B Fault
-(Ok x) >>= f = f x
-(Err e) >>= f = Err e
+use Rattle.gl_fault.specs.Refusals.{first_some, when, or_else, ◌>>=◌}
+use Rattle.gl_text.specs.Cards.{Device, Call, Model, Head, Card, dev, call, model, subckt, ends, global, ended, passed, no_card, has_parameters, has_long_tail, card_of, printed}
 
 -- a device or an X card, with its line
 pub data Body : Type 0 where
@@ -268,11 +263,31 @@ abbrev pub body_line : Body → List ℕ
 body_line (dev_at line d) = line_of (dev d)
 body_line (call_at line c) = line_of (call c)
 
+-- the line of a global net
+abbrev pub global_line : List ℕ → List ℕ
+global_line name = line_of (global (name ∷ []))
+
+-- the line of a model
+abbrev pub model_line : Model → List ℕ
+model_line m = line_of (model m)
+
+-- the line that opens a subcircuit
+abbrev pub head_line : Head → List ℕ
+head_line h = line_of (subckt h)
+
+-- the line that closes the subcircuit of a name
+abbrev pub ends_line : List ℕ → List ℕ
+ends_line name = line_of (ends (Some name))
+
+-- the line of a card that is carried along
+abbrev pub passed_line : List ℕ → List ℕ
+passed_line text = line_of (passed text)
+
 -- the lines of a subcircuit
 abbrev pub sub_text : Sub → List ℕ
-sub_text s = line_of (subckt s.head) ++ flat_map body_line s.cards ++ line_of (ends (Some s.head.name))
+sub_text s = head_line s.head ++ flat_map body_line s.cards ++ ends_line s.head.name
 
 -- the text of a deck: title, globals, models, subcircuits, top cards, passed cards, `.end`
 abbrev pub deck_text : Deck → List ℕ
-deck_text d = d.title ++ 10 ∷ flat_map (λ n. line_of (global (n ∷ []))) d.globals ++ flat_map (λ m. line_of (model m)) d.models
-    ++ flat_map sub_text d.subs ++ flat_map body_line d.top ++ flat_map (λ t. line_of (passed t)) d.passed ++ line_of ended
+deck_text d = d.title ++ 10 ∷ flat_map global_line d.globals ++ flat_map model_line d.models
+    ++ flat_map sub_text d.subs ++ flat_map body_line d.top ++ flat_map passed_line d.passed ++ line_of ended

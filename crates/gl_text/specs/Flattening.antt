@@ -1,9 +1,10 @@
 -- A flat deck.
+use Rattle.gl_fault.specs.Refusals.{first_some, when, or_else, ◌>>=◌}
 use Rattle.std.specs.Prelude.{ℕ, zero, suc, ◌+◌, ◌||◌, ◌&&◌, not, nat_lt, Bool, true, false, List, [], ◌∷◌, ◌++◌, length, map, filter, flat_map, sum_by, find, zip, Option, Some, None, option_map, option_map, unwrap_or, Result, Ok, Err, codes, if◌then◌else◌}
 use Rattle.std.specs.List.{list_any}
-use Rattle.gl_text.specs.LogicalLines.{NAME, Fault, name_clash, long_flat_name, too_many_cards, too_many_devices, too_deep, no_top, top_devices, long_text, same_text}
-use Rattle.gl_text.specs.Cards.{Device, Call, Model, Head, dev, model, subckt, ends, global, passed, ended, first_some, when, or_else, first_byte}
-use Rattle.gl_text.specs.Decks.{◌>>=◌, Body, dev_at, call_at, Sub, Deck, read_deck, is_in, find_sub, callees, line_of}
+use Rattle.gl_text.specs.LogicalLines.{FILE, NAME, Fault, name_clash, long_flat_name, too_many_cards, too_many_devices, too_deep, no_top, top_devices, long_text, same_text}
+use Rattle.gl_text.specs.Cards.{Device, Call, Model, Head, dev, ended, first_byte}
+use Rattle.gl_text.specs.Decks.{Body, dev_at, call_at, Sub, Deck, read_deck, is_in, find_sub, callees, line_of, global_line, model_line, head_line, ends_line, passed_line}
 
 -- how many X cards may stand in a chain
 abbrev pub DEPTH : ℕ
@@ -17,9 +18,9 @@ CARDS = 400000
 abbrev pub DEVICES : ℕ
 DEVICES = 200000
 
--- how many bytes the text of a flat deck may have
+-- how many bytes the text of a flat deck may have: as many as a file
 abbrev pub TEXT : ℕ
-TEXT = 67108864
+TEXT = FILE
 
 -- ---- nets and devices
 
@@ -111,12 +112,16 @@ flat_card d = record { name = device_name d; nodes = map net_name d.nets; model 
 -- a text inside the top's `.subckt` and `.ends`, if there is a top
 abbrev pub around : Option Head → List ℕ → List ℕ
 around None text = text
-around (Some h) text = line_of (subckt h) ++ text ++ line_of (ends (Some h.name))
+around (Some h) text = head_line h ++ text ++ ends_line h.name
+
+-- the line of a flat device
+abbrev pub flat_line : FlatDevice → List ℕ
+flat_line d = line_of (dev (flat_card d))
 
 -- the text of a flat deck
 abbrev pub flat_text : Flat → List ℕ
-flat_text f = f.title ++ 10 ∷ flat_map (λ n. line_of (global (n ∷ []))) f.rails ++ flat_map (λ m. line_of (model m)) f.models
-    ++ around f.top (flat_map (λ d. line_of (dev (flat_card d))) f.devices) ++ flat_map (λ t. line_of (passed t)) f.passed ++ line_of ended
+flat_text f = f.title ++ 10 ∷ flat_map global_line f.rails ++ flat_map model_line f.models
+    ++ around f.top (flat_map flat_line f.devices) ++ flat_map passed_line f.passed ++ line_of ended
 
 -- ---- refusals 20 to 26
 
@@ -179,6 +184,31 @@ abbrev pub first_clash : List Bearer → List Bearer → Option Fault
 first_clash before [] = None
 first_clash before (b ∷ bs) = first_some (when (list_any (clash b) before) (name_clash (bearer_name b)) ∷ first_clash (before ++ b ∷ []) bs ∷ [])
 
+-- ---- what refuses cards, and what refuses devices
+
+-- there is none
+abbrev pub is_none_left : List Sub → Bool
+is_none_left [] = true
+is_none_left (s ∷ ss) = false
+
+-- what cards exceed first: a chain of X cards, then the cards, then the devices
+abbrev pub excess_in : List Sub → List Body → Option Fault
+excess_in subs cards = first_some (when (not (is_none_left (at_depth subs cards DEPTH))) (too_deep (DEPTH + 1))
+    ∷ when (nat_lt CARDS (count one subs cards)) (too_many_cards (CARDS + 1))
+    ∷ when (nat_lt DEVICES (count one_device subs cards)) (too_many_devices (DEVICES + 1)) ∷ [])
+
+-- a text that is too long
+abbrev pub text_fault : Flat → Option Fault
+text_fault flat = when (nat_lt TEXT (length (flat_text flat))) (long_text (TEXT + 1))
+
+-- the first flat name that is too long
+abbrev pub long_in : List Bearer → Option Fault
+long_in names = first_some (map (λ b. when (nat_lt NAME (length (bearer_name b))) (long_flat_name (length (bearer_name b)))) names)
+
+-- the first name of devices that clashes with that of a net of the top (`0`, a rail or a port), or of a device or net before it
+abbrev pub clash_in : List (List ℕ) → List (List ℕ) → List FlatDevice → Option Fault
+clash_in rails ports devices = first_clash (map (λ n. net (top_net n)) (codes "0" ∷ rails ++ ports)) (flat_map bearers devices)
+
 -- ---- flattening
 
 -- the line of a device or an X card
@@ -200,24 +230,16 @@ abbrev pub top_ports : Option Head → List (List ℕ)
 top_ports None = []
 top_ports (Some h) = h.ports
 
--- there is none
-abbrev pub is_none_left : List Sub → Bool
-is_none_left [] = true
-is_none_left (s ∷ ss) = false
-
 -- the flat deck, or the first refusal
 abbrev pub flatten : Deck → List (List ℕ) → Option (List ℕ) → Result Flat Fault
 flatten deck rails top =
     chosen deck top >>= λ c.
-    or_else (first_some (when (not (is_none_left (at_depth deck.subs c.1 DEPTH))) (too_deep (DEPTH + 1))
-    ∷ when (nat_lt CARDS (count one deck.subs c.1)) (too_many_cards (CARDS + 1))
-    ∷ when (nat_lt DEVICES (count one_device deck.subs c.1)) (too_many_devices (DEVICES + 1)) ∷ [])) c >>= λ c.
+    or_else (excess_in deck.subs c.1) c >>= λ c.
     let devices = flat_devices rails deck.subs DEPTH top_place c.1 in
     let flat : Flat = record { title = deck.title; rails = rails; models = deck.models; top = c.0; devices = devices; passed = deck.passed } in
-    or_else (when (nat_lt TEXT (length (flat_text flat))) (long_text (TEXT + 1))) flat >>= λ flat.
-    let names = flat_map bearers devices in
-    or_else (first_some (map (λ b. when (nat_lt NAME (length (bearer_name b))) (long_flat_name (length (bearer_name b)))) names)) flat >>= λ flat.
-    or_else (first_clash (map (λ n. net (top_net n)) (codes "0" ∷ rails ++ top_ports c.0)) names) flat
+    or_else (text_fault flat) flat >>= λ flat.
+    or_else (long_in (flat_map bearers devices)) flat >>= λ flat.
+    or_else (clash_in rails (top_ports c.0) devices) flat
 
 -- from bytes, with the deck's own globals
 abbrev pub flat_of : Option (List ℕ) → List ℕ → Result Flat Fault

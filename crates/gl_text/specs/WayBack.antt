@@ -1,12 +1,17 @@
 -- Names and devices that were read.
-use Rattle.std.specs.Prelude.{◌≡◌, ◌≤◌, ℕ, List, [], ◌∷◌, ◌++◌, length, Option, nat_lt, true, false, option_to_list}
+use Rattle.std.specs.Prelude.{◌≡◌, ◌≤◌, ◌==◌, ℕ, List, [], ◌∷◌, ◌++◌, length, Option, nat_lt, true, false, option_to_list}
 use Rattle.std.specs.List.{AllByRecursion}
 use Rattle.gl_text.specs.LogicalLines.{NAME, TAIL, is_separator, folded, fold_byte, tail_of}
 use Rattle.gl_text.specs.Cards.{Kind, caller, device, kinds, by_byte}
 
--- a name as it is read: not empty, without separators, folded, not too long
+-- a text holds no newline
+abbrev pub IsOneLine : List ℕ → Type 0
+IsOneLine text = AllByRecursion (λ b. (b == 10) ≡ false) text
+
+-- a name as it is read: not empty, on one line, without separators, folded, not too long
 pub record IsName (bytes : List ℕ) : Type 0 where
   pub some : nat_lt 0 (length bytes) ≡ true
+  pub one_line : IsOneLine bytes
   pub plain : AllByRecursion (λ b. is_separator b ≡ false) bytes
   pub small : folded bytes ≡ bytes
   pub short : length bytes ≤ NAME

@@ -1,4 +1,4 @@
-use Rattle.gl_base.proofs.TextLaws.{names_differ, names_stay, names_were}
+use Rattle.gl_text.proofs.Names.{names_differ, names_stay, names_were}
 use Rattle.gl_base.proofs.laws.names_stand_once.Goals as goal
 
 pub returns : goal.returns

@@ -1,5 +1,5 @@
 use Rattle.gl_base.specs.TypeNames.{same_type}
-use Rattle.gl_base.proofs.OnceLaws.{same_if}
+use Rattle.gl_lists.proofs.EachOnce.{same_if}
 use Rattle.gl_base.proofs.TypeLaws.{exact, itself, same_type_equiv}
 use Rattle.gl_base.proofs.laws.same_types_are_equal.Goals as goal
 
