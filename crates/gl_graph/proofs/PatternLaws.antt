@@ -4,6 +4,10 @@ use Rattle.std.specs.Prelude.{not, ◌||◌, nat_lt, slice_get}
 use Rattle.std.specs.List.{list_any, flat_map, enumerate_from}
 use Rattle.std.proofs.lemmas.Bool.{cases_order, eqb-true, eqb-false, eq-eqb, ltb-true, or_parts, or_left, or_right, or_cases, not-false, cases_Bool}
 use Rattle.std.proofs.lemmas.Option.{slice_get-get_or}
+use Rattle.std.specs.Option.{option_or}
+use Rattle.gl_fault.proofs.FirstLaws.{when_none}
+use Rattle.gl_fault.proofs.PairLaws.{or_none}
+use Rattle.gl_fault.specs.Refusals.{when}
 use Rattle.gl_match.specs.declared.role.Role.{Role}
 use Rattle.gl_match.specs.declared.role.Role.TheVariants.{Port, Rail, Inner}
 use Rattle.gl_match.specs.Graph.{Device, Circuit, Pattern, FitsInto, IsKnownRail, role_at, is_in, is_some_at, places_of, degree}
@@ -11,8 +15,8 @@ use Rattle.gl_match.proofs.Lists.{length_map}
 use Rattle.gl_graph.specs.Built.{IsBuiltPattern, IsPortOrRail, pattern_size, pattern_of}
 use Rattle.gl_graph.specs.declared.fault.BuildFault.{BuildFault}
 use Rattle.gl_graph.specs.declared.fault.BuildFault.TheVariants.{BadRole, BadPort, NoDevice}
-use Rattle.gl_graph.specs.Faults.{fault_if, earlier, first_in, device_fault, is_placed, is_rail_of, is_bad_role, role_fault, is_bad_port, port_fault, pattern_fault}
-use Rattle.gl_graph.proofs.FaultLaws.{earlier_none, fault_if_none, none_at, any_before, devices_sound}
+use Rattle.gl_graph.specs.Faults.{first_in, device_fault, is_placed, is_rail_of, is_bad_role, role_fault, is_bad_port, port_fault, pattern_fault}
+use Rattle.gl_graph.proofs.FaultLaws.{none_at, any_before, devices_sound}
 
 -- ---- a net on a device has a place
 
@@ -43,20 +47,20 @@ placed_degree devices net h = from 0 devices net h where
 
 -- ---- what each part says
 
-pub parts : (shapes : List (List ℕ)) (rails : ℕ) (p : Pattern) → pattern_fault shapes rails p ≡ None → (first_in (device_fault shapes (length p.roles)) 0 p.devices ≡ None) × (first_in (role_fault rails p) 0 p.roles ≡ None) × (first_in (port_fault (length p.roles) p.ports) 0 p.ports ≡ None) × (fault_if (eqb (length p.devices) 0) NoDevice ≡ None)
+pub parts : (shapes : List (List ℕ)) (rails : ℕ) (p : Pattern) → pattern_fault shapes rails p ≡ None → (first_in (device_fault shapes (length p.roles)) 0 p.devices ≡ None) × (first_in (role_fault rails p) 0 p.roles ≡ None) × (first_in (port_fault (length p.roles) p.ports) 0 p.ports ≡ None) × (when (eqb (length p.devices) 0) NoDevice ≡ None)
 parts shapes rails p e =
     let devices = first_in (device_fault shapes (length p.roles)) 0 p.devices in
     let roles = first_in (role_fault rails p) 0 p.roles in
     let ports = first_in (port_fault (length p.roles) p.ports) 0 p.ports in
-    let filled = fault_if (eqb (length p.devices) 0) NoDevice in
-    let a = earlier_none devices (earlier roles (earlier ports filled)) e in
-    let b = earlier_none roles (earlier ports filled) a.1 in
-    let c = earlier_none ports filled b.1 in
+    let filled = when (eqb (length p.devices) 0) NoDevice in
+    let a = or_none devices (option_or roles (option_or ports filled)) e in
+    let b = or_none roles (option_or ports filled) a.1 in
+    let c = or_none ports filled b.1 in
     (a.0, b.0, c.0, c.1)
 
 pub parts_none : (shapes : List (List ℕ)) (rails : ℕ) (p : Pattern) → first_in (device_fault shapes (length p.roles)) 0 p.devices ≡ None → first_in (role_fault rails p) 0 p.roles ≡ None → first_in (port_fault (length p.roles) p.ports) 0 p.ports ≡ None → eqb (length p.devices) 0 ≡ false → pattern_fault shapes rails p ≡ None
 parts_none shapes rails p devices roles ports filled =
-    let all : Option BuildFault → Option BuildFault → Option BuildFault → Bool → Option BuildFault = λ w x y b. earlier w (earlier x (earlier y (fault_if b NoDevice))) in
+    let all : Option BuildFault → Option BuildFault → Option BuildFault → Bool → Option BuildFault = λ w x y b. option_or w (option_or x (option_or y (when b NoDevice))) in
     ap (λ w. all w (first_in (role_fault rails p) 0 p.roles) (first_in (port_fault (length p.roles) p.ports) 0 p.ports) (eqb (length p.devices) 0)) devices
     ∙ ap (λ x. all None x (first_in (port_fault (length p.roles) p.ports) 0 p.ports) (eqb (length p.devices) 0)) roles
     ∙ ap (λ y. all None None y (eqb (length p.devices) 0)) ports
@@ -64,13 +68,13 @@ parts_none shapes rails p devices roles ports filled =
 
 role_good : (rails : ℕ) (p : Pattern) → first_in (role_fault rails p) 0 p.roles ≡ None → (net : ℕ) (role : Role) → slice_get p.roles net ≡ Some role → (is_placed p.devices net ≡ true) × (is_bad_role rails p.roles p.ports net role ≡ false)
 role_good rails p e net role is =
-    let good = fault_if_none (not (is_placed p.devices net) || is_bad_role rails p.roles p.ports net role) (BadRole net) (none_at (role_fault rails p) p.roles e net role is) in
+    let good = when_none (not (is_placed p.devices net) || is_bad_role rails p.roles p.ports net role) (BadRole net) (none_at (role_fault rails p) p.roles e net role is) in
     let both = or_parts (not (is_placed p.devices net)) (is_bad_role rails p.roles p.ports net role) good in
     (not-false (is_placed p.devices net) both.0, both.1)
 
 port_good : (p : Pattern) → first_in (port_fault (length p.roles) p.ports) 0 p.ports ≡ None → (port net : ℕ) → slice_get p.ports port ≡ Some net → (net < length p.roles) × (is_in (take port p.ports) net ≡ false)
 port_good p e port net is =
-    let good = fault_if_none (is_bad_port (length p.roles) p.ports port net) (BadPort port) (none_at (port_fault (length p.roles) p.ports) p.ports e port net is) in
+    let good = when_none (is_bad_port (length p.roles) p.ports port net) (BadPort port) (none_at (port_fault (length p.roles) p.ports) p.ports e port net is) in
     let both = or_parts (not (nat_lt net (length p.roles))) (is_in (take port p.ports) net) good in
     (ltb-true net (length p.roles) (not-false (nat_lt net (length p.roles)) both.0), both.1)
 
@@ -120,7 +124,7 @@ some_of p net lt = slice_get-get_or p.roles net Inner lt
 pub pattern_sound : (shapes : List (List ℕ)) (rails : ℕ) (p : Pattern) → pattern_fault shapes rails p ≡ None → pattern_size p < 4294967295 → IsBuiltPattern p
 pattern_sound shapes rails p e few =
     let all = parts shapes rails p e in
-    let some : length p.devices ≡ 0 → ⊥ = eqb-false (length p.devices) 0 (fault_if_none (eqb (length p.devices) 0) NoDevice all.3) in
+    let some : length p.devices ≡ 0 → ⊥ = eqb-false (length p.devices) 0 (when_none (eqb (length p.devices) 0) NoDevice all.3) in
     record {
       filled = elim (cases_order 0 (length p.devices)) [ inl none ↦ absurd (some (sym none)) | inr differ ↦ elim differ [ inl lt ↦ lt | inr gt ↦ omega arith ] ];
       nets = λ k d lt. (devices_sound shapes (length p.roles) p.devices all.0 k d lt).below;

@@ -1,10 +1,12 @@
 //! The refusals of a pattern: of its devices, its roles, its ports, and that it has no device.
-ghost use Rattle.std.specs.Prelude.{◌≡◌, ◌+◌, ◌<◌, ◌^◌, not, ◌||◌, false, length, take, All, IfOk, slice_index_or};
+ghost use Rattle.std.specs.Prelude.{◌≡◌, ◌+◌, ◌<◌, ◌^◌, ◌==◌, not, ◌||◌, false, length, take, All, IfOk, slice_index_or};
 ghost use Rattle.std.specs.Bool.{OnTrue};
 ghost use Rattle.gl_match.specs.Graph.{Circuit as Graph, FitsInto, is_in};
+ghost use Rattle.gl_fault.specs.Refusals.{when};
 ghost use Rattle.gl_graph.specs.Built.{IsBuiltPattern, pattern_size, pattern_of};
-ghost use Rattle.gl_graph.specs.Faults.{first_in, role_fault, is_bad_role, port_fault, is_bad_port, pattern_fault, AnswersBy};
+ghost use Rattle.gl_graph.specs.Faults.{first_in, role_fault, is_bad_role, port_fault, is_bad_port, pattern_fault, AnswersBy, Finds};
 ghost use Rattle.gl_graph.specs.Kept.{IsTable, IsRoleTable};
+ghost use Rattle.gl_graph.specs.declared.fault.BuildFault.TheVariants.{NoDevice};
 
 use crate::checks::check_devices;
 use crate::marks::{mark_new, nets_in, nets_on_devices};
@@ -108,6 +110,16 @@ fn check_ports(alloc: Global, nets: usize, ports: &[NetId]) -> Result<(), BuildF
     Ok(())
 }
 
+/// Refuses a pattern without devices. It takes no memory, and never tells of want of it.
+fn check_some(devices: &[Device]) -> Result<(), BuildFault>
+    ensures first { Finds result (when (length devices.now == 0) NoDevice) }
+{
+    if devices.is_empty() {
+        return Err(BuildFault::NoDevice);
+    }
+    Ok(())
+}
+
 /// Refuses the parts of a pattern by their first fault.
 pub fn check_pattern(
     alloc: Global,
@@ -129,8 +141,6 @@ pub fn check_pattern(
     check_devices(shapes, roles.len() as u32, devices)?;
     check_roles(alloc, rails, devices, roles, ports)?;
     check_ports(alloc, roles.len(), ports)?;
-    if devices.is_empty() {
-        return Err(BuildFault::NoDevice);
-    }
+    check_some(devices)?;
     Ok(())
 }
