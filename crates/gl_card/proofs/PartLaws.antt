@@ -7,12 +7,19 @@ use Rattle.gl_line.specs.declared.field.Field.{Field}
 use Rattle.gl_line.specs.Fields.{piece_of}
 use Rattle.gl_card.specs.Kinds.{shown}
 
-pub but_last_is : (xs : List Field) → shown (take (length xs - 1) xs) ≡ cards.but_last (shown xs)
+pub but_last_is : {A : Type 0} (xs : List A) → take (length xs - 1) xs ≡ cards.but_last xs
 but_last_is [] = refl
 but_last_is (x ∷ []) = refl
 but_last_is (x ∷ y ∷ ys) =
     let e : length (x ∷ y ∷ ys) - 1 ≡ suc (length (y ∷ ys) - 1) = omega arith in
-    ap (λ n. shown (take n (x ∷ y ∷ ys))) e ∙ ap (λ ns. folded x.bytes.now ∷ ns) (but_last_is (y ∷ ys))
+    ap (λ n. take n (x ∷ y ∷ ys)) e ∙ ap (λ ns. x ∷ ns) (but_last_is (y ∷ ys))
+
+pub last_at : (xs : List (List ℕ)) (d : List ℕ) → 0 < length xs → get_or xs (length xs - 1) d ≡ cards.last_name xs
+last_at [] d h = absurd (omega arith)
+last_at (x ∷ []) d h = refl
+last_at (x ∷ y ∷ ys) d h =
+    let e : length (x ∷ y ∷ ys) - 1 ≡ suc (length (y ∷ ys) - 1) = omega arith in
+    ap (λ n. get_or (x ∷ y ∷ ys) n d) e ∙ last_at (y ∷ ys) d (omega arith)
 
 pub last_is : (xs : List Field) (d : Field) → 0 < length xs → folded (get_or xs (length xs - 1) d).bytes.now ≡ cards.last_name (shown xs)
 last_is [] d h = absurd (omega arith)

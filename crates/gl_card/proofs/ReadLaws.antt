@@ -1,18 +1,20 @@
 -- From the fields that were found to the card of a text.
 use Rattle.std.proofs.Common.{◌≡◌, ◌≤◌, ◌+◌, cond, ℕ, List, [], ◌∷◌, length, map, ltb, true, false, Bool, Option, Some, None, Result, Ok, Err, refl, sym, ap, ◌∙◌, arith}
-use Rattle.std.specs.Prelude.{filter}
+use Rattle.std.specs.Prelude.{filter, IfOk, IfErr}
 use Rattle.std.proofs.lemmas.Bool.{ltb-false}
 use Rattle.std.proofs.lemmas.List.{length-map}
 use Rattle.gl_text.specs.LogicalLines.{Fault, Line, Piece, fields_of, folded, is_field, is_separator, onto, pieces_of}
 use Rattle.gl_text.specs.Cards as cards
-use Rattle.gl_text.specs.Cards.{Kind, kind_of, card_by, card_of, names_of, tail_at, all_fields, no_card, no_card_by, first_some, when, or_else, needs}
+use Rattle.gl_fault.proofs.AnswerLaws.{given, none_is, refused_behind}
+use Rattle.gl_fault.proofs.FirstLaws.{or_else_ok}
+use Rattle.gl_fault.specs.Refusals.{first_some, when, or_else}
+use Rattle.gl_text.specs.Cards.{Kind, kind_of, card_by, card_of, names_of, tail_at, all_fields, no_card, no_card_by, needs}
 use Rattle.gl_line.specs.declared.field.Field.{Field}
 use Rattle.gl_line.specs.Fields.{piece_of}
 use Rattle.gl_card.specs.declared.card.Card.{Card}
 use Rattle.gl_card.specs.declared.fault.CardFault.{CardFault}
-use Rattle.gl_card.specs.declared.fault.CardFault.TheVariants as faults
 use Rattle.gl_card.specs.Kinds.{AreFields, shown, card_from}
-use Rattle.gl_card.specs.Reading.{Refuses, GivesCard, card_value}
+use Rattle.gl_card.specs.Reading.{Refuses, GivesCard, card_value, fault_of}
 
 shown_by : (text : List ℕ) (fields : List Field) → shown fields ≡ map (λ (p : Piece). folded p.bytes) (map (piece_of text) fields)
 shown_by text [] = refl
@@ -73,21 +75,7 @@ fields_few text fields h =
     let b = text_fields_few text in
     omega arith
 
--- ---- a refusal is given, or there is none
-
-pub given : (e : CardFault) (n : Option Fault) (x : cards.Card) → Refuses (Some e) n → GivesCard (Err e) (or_else n x)
-given e None x p = absurd cc
-given (faults.LongName line len) (Some f) x p = cc
-given (faults.UnknownCard line byte) (Some f) x p = cc
-given (faults.ShortCard line has need) (Some f) x p = cc
-given (faults.ControlBlock line) (Some f) x p = cc
-given (faults.Parameters line) (Some f) x p = cc
-given (faults.LongTail line len) (Some f) x p = cc
-given faults.Memory (Some f) x p = tt
-
-pub none_is : (n : Option Fault) → Refuses None n → n ≡ None
-none_is None p = refl
-none_is (Some f) p = absurd cc
+-- ---- where nothing is refused
 
 few_by : (a b d : Option Fault) (t : Bool) (f : Fault) → first_some (a ∷ b ∷ when t f ∷ d ∷ []) ≡ None → t ≡ false
 few_by None None d false f p = refl
@@ -103,27 +91,18 @@ enough l k fields a b d f p =
 
 -- ---- later refusals
 
-no_err : (e : CardFault) (x : cards.Card) (w : Result cards.Card Fault) → GivesCard (Err e) (Ok x) → GivesCard (Err e) w
-no_err (faults.LongName line len) x w p = absurd cc
-no_err (faults.UnknownCard line byte) x w p = absurd cc
-no_err (faults.ShortCard line has need) x w p = absurd cc
-no_err (faults.ControlBlock line) x w p = absurd cc
-no_err (faults.Parameters line) x w p = absurd cc
-no_err (faults.LongTail line len) x w p = absurd cc
-no_err faults.Memory x w p = tt
-
-pub earlier : (e : CardFault) (n : Option Fault) (x : cards.Card) (more : List (Option Fault)) → GivesCard (Err e) (or_else n x) → GivesCard (Err e) (or_else (first_some (n ∷ more)) x)
-earlier e (Some f) x more p = p
-earlier e None x more p = no_err e x (or_else (first_some more) x) p
-
 pub card_kept : (n : Option Fault) (x y : cards.Card) → or_else n x ≡ Ok y → y ≡ x
-card_kept None x y p = cc
-card_kept (Some f) x y p = absurd cc
+card_kept n x y p = sym (or_else_ok n x y p).1
 
 pub later : (e : CardFault) (n : Option Fault) (x y : cards.Card) (more : List (Option Fault)) → or_else n x ≡ Ok y → Refuses (Some e) (first_some more) → GivesCard (Err e) (or_else (first_some (n ∷ more)) x)
-later e (Some f) x y more p q = absurd cc
-later e None x y more p q = given e (first_some more) x q
+later e n x y more p q = refused_behind (fault_of e) n x y more p (given fault_of e (first_some more) x q)
 
 pub unrefused : (n : Option Fault) (x y : cards.Card) (more : List (Option Fault)) → or_else n x ≡ Ok y → Refuses None (first_some more) → or_else (first_some (n ∷ more)) x ≡ Ok y
 unrefused (Some f) x y more p q = absurd cc
-unrefused None x y more p q = ap (λ o. or_else o x) (none_is (first_some more) q) ∙ p
+unrefused None x y more p q = ap (λ o. or_else o x) (none_is fault_of (first_some more) q) ∙ p
+
+-- what is judged of a card that was read
+pub judged_gives : (r : Result Card CardFault) (n : Option Fault) (x : cards.Card) (card : Card) (more : List (Option Fault)) → or_else n x ≡ Ok (card_value card)
+    → IfOk r (λ kept. (kept ≡ card) × Refuses None (first_some more)) → IfErr r (λ fault. Refuses (Some fault) (first_some more)) → GivesCard r (or_else (first_some (n ∷ more)) x)
+judged_gives (Ok kept) n x card more p q e = unrefused n x (card_value card) more p q.1 ∙ ap (λ c. Ok (card_value c)) (sym q.0)
+judged_gives (Err fault) n x card more p q e = later fault n x (card_value card) more p e

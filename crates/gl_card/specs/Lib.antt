@@ -1,4 +1,5 @@
 pub mod Letters
+pub mod Named
 pub mod Kinds
 pub mod Reading
 pub mod EqualSigns

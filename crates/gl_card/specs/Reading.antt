@@ -1,6 +1,8 @@
 -- What a card and a refusal of the code mean.
-use Rattle.std.specs.Prelude.{◌≡◌, ℕ, List, Option, Some, None, option_map, map, nat_lt, Result, Ok, Err, length}
-use Rattle.gl_text.specs.LogicalLines.{NAME, Fault, long_name, unknown_card, short_card, control_block, parameters, long_tail}
+use Rattle.std.specs.Prelude.{ℕ, List, [], ◌∷◌, Option, Some, None, map, nat_lt, Result, length}
+use Rattle.gl_fault.specs.Refusals as answers
+use Rattle.gl_fault.specs.Refusals.{first_some, when, GivesAs}
+use Rattle.gl_text.specs.LogicalLines.{NAME, Line, Fault, long_name, unknown_card, short_card, control_block, parameters, long_tail}
 use Rattle.gl_text.specs.Cards as cards
 use Rattle.gl_card.specs.declared.card.Card.{Card}
 use Rattle.gl_card.specs.declared.card.Card.TheVariants as card
@@ -30,19 +32,16 @@ fault_of faults.Memory = None
 
 -- the first name that is too long
 abbrev pub first_long : ℕ → List (List ℕ) → Option Fault
-first_long line names = cards.first_some (map (λ (n : List ℕ). cards.when (nat_lt NAME (length n)) (long_name line (length n))) names)
+first_long line names = first_some (map (λ (n : List ℕ). when (nat_lt NAME (length n)) (long_name line (length n))) names)
+
+-- why a line's card is refused although there is one
+abbrev pub late_of : Line → Option Fault
+late_of l = first_some (cards.has_parameters l ∷ cards.has_long_tail l ∷ [])
 
 -- there is a refusal exactly where one is wanted, and it is that one
 abbrev pub Refuses : Option CardFault → Option Fault → Type 0
-Refuses given wanted = option_map fault_of given ≡ option_map (λ f. Some f) wanted
+Refuses = answers.Refuses fault_of
 
 -- a card exactly where one is wanted, and it is that one; else the wanted refusal; want of memory may come in place of either
 abbrev pub GivesCard : Result Card CardFault → Result cards.Card Fault → Type 0
-GivesCard (Ok c) wanted = wanted ≡ Ok (card_value c)
-GivesCard (Err (faults.LongName line len)) wanted = wanted ≡ Err (long_name line len)
-GivesCard (Err (faults.UnknownCard line byte)) wanted = wanted ≡ Err (unknown_card line byte)
-GivesCard (Err (faults.ShortCard line has needs)) wanted = wanted ≡ Err (short_card line has needs)
-GivesCard (Err (faults.ControlBlock line)) wanted = wanted ≡ Err (control_block line)
-GivesCard (Err (faults.Parameters line)) wanted = wanted ≡ Err (parameters line)
-GivesCard (Err (faults.LongTail line len)) wanted = wanted ≡ Err (long_tail line len)
-GivesCard (Err faults.Memory) wanted = Unit {0}
+GivesCard = GivesAs fault_of card_value

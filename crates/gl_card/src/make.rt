@@ -6,7 +6,7 @@ ghost use Rattle.gl_card.specs.declared.kind.Kind.TheVariants as kinds;
 ghost use Rattle.gl_card.specs.Reading.{card_value};
 
 use crate::kind::Kind;
-use crate::parts::{but_last, first_name, given_name, last_name, text_behind};
+use crate::parts::{first_name, given_name, last_name, text_behind};
 use crate::slices::{behind, front, names, names_in};
 use crate::{CallCard, Card, DevCard, Head, Letter, ModelCard};
 use gl_line::{Field, Tail, trim_end};
@@ -23,13 +23,8 @@ fn device(
     requires lettered { cards.first_byte (cards.first_or [] (shown fields.now)) ≡ byte_of letter }
     ensures card { IfOk result (λ d. cards.dev d ≡ card_from (kind_value (kinds.Device letter)) fields.now text.now) }
 {
-    let named = front(fields, letter.fields());
-    let behind_name = behind(named, 1);
     Ok(DevCard {
-        letter,
-        name: first_name(alloc, named)?,
-        nodes: names(alloc, front(behind_name, letter.nodes()))?,
-        model: given_name(alloc, behind(behind_name, letter.nodes()))?,
+        names: names(alloc, front(fields, letter.fields()))?,
         tail: Tail::normal(alloc, text_behind(text, fields, letter.fields()))?,
     })
 }
@@ -40,9 +35,7 @@ fn call(alloc: Global, text: &[u8], fields: &[Field<'_>]) -> Result<CallCard, Al
     ensures card { IfOk result (λ c. cards.call c ≡ card_from cards.caller fields.now text.now) }
 {
     Ok(CallCard {
-        name: first_name(alloc, fields)?,
-        nodes: names(alloc, but_last(behind(fields, 1)))?,
-        sub: last_name(alloc, fields)?,
+        names: names(alloc, fields)?,
     })
 }
 

@@ -4,11 +4,11 @@ ghost use Rattle.gl_line.specs.Fields.{piece_of};
 ghost use Rattle.gl_card.specs.Kinds.{shown};
 
 use crate::slices::behind;
-use gl_line::{Field, Name};
-use std::alloc::{AllocError, Global};
+use gl_line::{Field, Memory, Name};
+use std::alloc::Global;
 
 /// The name of the first field.
-pub fn first_name(alloc: Global, fields: &[Field<'_>]) -> Result<Name, AllocError>
+pub fn first_name(alloc: Global, fields: &[Field<'_>]) -> Result<Name, Memory>
     requires some { 0 < length fields.now }
     ensures name { IfOk result (λ name. name ≡ cards.first_or [] (shown fields.now)) }
 {
@@ -16,7 +16,7 @@ pub fn first_name(alloc: Global, fields: &[Field<'_>]) -> Result<Name, AllocErro
 }
 
 /// The name of the first field, if there is one.
-pub fn given_name(alloc: Global, fields: &[Field<'_>]) -> Result<Option<Name>, AllocError>
+pub fn given_name(alloc: Global, fields: &[Field<'_>]) -> Result<Option<Name>, Memory>
     ensures name { IfOk result (λ name. name ≡ cards.front (shown fields.now)) }
 {
     match fields {
@@ -26,21 +26,30 @@ pub fn given_name(alloc: Global, fields: &[Field<'_>]) -> Result<Option<Name>, A
 }
 
 /// The name of the last field.
-pub fn last_name(alloc: Global, fields: &[Field<'_>]) -> Result<Name, AllocError>
+pub fn last_name(alloc: Global, fields: &[Field<'_>]) -> Result<Name, Memory>
     requires some { 0 < length fields.now }
     ensures name { IfOk result (λ name. name ≡ cards.last_name (shown fields.now)) }
 {
     Name::folded(alloc, fields[fields.len() - 1].bytes)
 }
 
-/// All fields but the last.
-pub fn but_last<'s, 'f>(fields: &'s [Field<'f>]) -> &'s [Field<'f>]
-    ensures fields { shown result.now ≡ cards.but_last (shown fields.now) }
+/// All names but the last.
+pub fn but_last(names: &[Name]) -> &[Name]
+    ensures names { result.now ≡ cards.but_last names.now }
 {
-    match fields {
+    match names {
         [] => &[],
         [before @ .., _] => before,
     }
+}
+
+/// The last of some names.
+#[tactic(auto, using(crate::proofs::PartLaws::last_at))]
+pub fn last(names: &[Name]) -> &Name
+    requires some { 0 < length names.now }
+    ensures name { result.now ≡ cards.last_name names.now }
+{
+    &names[names.len() - 1]
 }
 
 /// The text behind field number `count`, counted from 1.

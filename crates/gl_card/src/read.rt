@@ -1,7 +1,8 @@
-ghost use Rattle.std.specs.Prelude.{◌≡◌, ◌<◌, ◌≤◌, ◌^◌, [], ◌∷◌, length};
+ghost use Rattle.std.specs.Prelude.{◌≡◌, ◌<◌, ◌≤◌, ◌^◌, length, Some, None, IfOk, IfErr};
 ghost use Rattle.gl_text.specs.LogicalLines.{LINE};
-ghost use Rattle.gl_text.specs.Cards.{card_of, first_some, has_long_tail, has_parameters, no_card as no_card_of, or_else, read_card, tail_fault};
-ghost use Rattle.gl_card.specs.Reading.{GivesCard, Refuses, card_value};
+ghost use Rattle.gl_fault.specs.Refusals.{or_else};
+ghost use Rattle.gl_text.specs.Cards.{card_of, has_long_tail, has_parameters, no_card as no_card_of, read_card, tail_fault};
+ghost use Rattle.gl_card.specs.Reading.{GivesCard, Refuses, card_value, late_of};
 ghost use Rattle.gl_card.specs.Kinds.{AreFields};
 ghost use Rattle.gl_card.specs.EqualSigns.{equal_sign};
 
@@ -54,6 +55,19 @@ fn card_in(alloc: Global, line: &Logical<'_>, fields: &[Field<'_>]) -> Result<Ca
     Ok(make(alloc, kind, text, fields)?)
 }
 
+/// The card of a line, or why it is refused although there is one. It takes no memory, and never tells of want of it.
+fn judged(card: Card, line: &Logical<'_>) -> Result<Card, CardFault>
+    requires of_line { card_value card ≡ card_of line.now.text }
+    requires size { length line.now.text ≤ LINE }
+    ensures card { IfOk result (λ kept. (kept ≡ card) × Refuses None (late_of line.now)) }
+    ensures refused { IfErr result (λ fault. Refuses (Some fault) (late_of line.now)) }
+{
+    match card.late_fault(line) {
+        Some(fault) => Err(fault),
+        None => Ok(card),
+    }
+}
+
 impl Card {
     /// The card of a logical line, or why there is none: a name that is too long, a first byte that begins no card, too
     /// few fields, a control block, in this order. Whether the card is then to be refused is `late_fault`'s answer.
@@ -96,7 +110,7 @@ impl Card {
     pub fn late_fault(&self, line: &Logical<'_>) -> Option<CardFault>
         requires of_line { card_value self.now ≡ card_of line.now.text }
         requires size { length line.now.text ≤ LINE }
-        ensures late { Refuses result (first_some (has_parameters line.now ∷ has_long_tail line.now ∷ [])) }
+        ensures late { Refuses result (late_of line.now) }
     {
         self.parameter_fault(line).or(self.tail_fault(line))
     }
@@ -108,10 +122,7 @@ impl Card {
         ensures card { GivesCard result (read_card line.now) }
     {
         match Card::parse(alloc, line) {
-            Ok(card) => match card.late_fault(line) {
-                Some(fault) => Err(fault),
-                None => Ok(card),
-            },
+            Ok(card) => judged(card, line),
             Err(fault) => Err(fault),
         }
     }

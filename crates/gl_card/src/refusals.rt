@@ -1,7 +1,7 @@
 ghost use Rattle.std.specs.Prelude.{◌≡◌, ◌<◌, ◌≤◌, ◌^◌, length, nat_lt};
 ghost use Rattle.gl_text.specs.LogicalLines as lines;
 ghost use Rattle.gl_text.specs.Cards as cards;
-ghost use Rattle.gl_text.specs.Cards.{when};
+ghost use Rattle.gl_fault.specs.Refusals.{when};
 ghost use Rattle.gl_card.specs.Kinds.{kind_value, shown};
 ghost use Rattle.gl_card.specs.Reading.{Refuses, first_long};
 

@@ -28,12 +28,15 @@ pub fn behind<T>(items: &[T], count: usize) -> &[T]
     }
 }
 
+/// For so many fields there is room before the first is found.
+const MANY: usize = 16;
+
 /// All fields of a text.
 pub fn fields_in(alloc: Global, text: &[u8]) -> Result<Vec<Field<'_>>, AllocError>
     requires size { length text.now < 2 ^ 32 }
     ensures fields { IfOk result (λ found. AreFields text.now found.items) }
 {
-    let mut found = Vec::new(alloc);
+    let mut found = Vec::with_capacity(alloc, MANY)?;
     for field in fields(text) {
         found.push(field)?;
     }
@@ -58,7 +61,7 @@ pub fn names_in<'s, 'f>(kind: Kind, fields: &'s [Field<'f>]) -> &'s [Field<'f>]
 pub fn names(alloc: Global, fields: &[Field<'_>]) -> Result<Vec<Name>, AllocError>
     ensures names { IfOk result (λ names. names.items ≡ shown fields.now) }
 {
-    let mut names = Vec::new(alloc);
+    let mut names = Vec::with_capacity(alloc, fields.len())?;
     for field in fields {
         names.push(Name::folded(alloc, field.bytes)?)?;
     }

@@ -1,6 +1,7 @@
 pub mod Rest
 pub mod Runs
 pub mod Fields
-pub mod Gives
+pub mod Answers
 pub mod Lines
 pub mod Squeezing
+pub mod Packing

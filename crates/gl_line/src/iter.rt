@@ -29,11 +29,11 @@ impl<'a> Iterator for LogicalLines<'a> {
     type Item = Result<Logical<'a>, LineFault>;
 
     ghost use Rattle.gl_line.specs.Lines.{lines_left};
-    ghost use Rattle.gl_line.specs.Gives.{Gives};
+    ghost use Rattle.gl_line.specs.Answers.{GivesFirst};
     ghost use Rattle.std.specs.Prelude.{◌≡◌, [], MatchOption};
     ghost use Rattle.std.specs.Iterator.{item_count};
 
-    ghost next_gives = { λ s r t. MatchOption r ((lines_left s ≡ []) × (lines_left t ≡ [])) (λ x. Gives x (lines_left s) (lines_left t)) };
+    ghost next_gives = { λ s r t. MatchOption r ((lines_left s ≡ []) × (lines_left t ≡ [])) (λ x. GivesFirst x (lines_left s) (lines_left t)) };
 
     ghost remaining = { item_count lines_left };
 

@@ -7,17 +7,18 @@ ghost use Rattle.std.specs.Ordering.{nat_cmp};
 ghost use Rattle.std.specs.Hash as fed;
 ghost use Rattle.gl_text.specs.LogicalLines.{folded};
 
-use bstr::ByteSlice;
-use std::alloc::{AllocError, Global};
+use crate::packed::Packed;
+use gl_fault::Memory;
+use std::alloc::Global;
 use std::cmp::Ordering;
 use std::hash::{Hash, Hasher};
 use std::marker::Model;
 
-/// A name: its bytes, folded to lower case where it was read. Contracts see it as the list of its bytes.
+/// A name: its bytes, folded to lower case where it was read; up to 22 stand in place. Contracts see it as the list of
+/// its bytes.
 #[derive(Debug, Drop)]
 pub struct Name {
-    /// The bytes.
-    pub bytes: Vec<u8>,
+    bytes: Packed,
 }
 
 impl Model for Name {
@@ -25,25 +26,34 @@ impl Model for Name {
 
     ghost Value = { List ℕ };
 
-    ghost view = { λ n. n.bytes.items };
+    ghost view = { λ n. n.bytes };
 }
 
 impl Name {
     /// The name of the bytes as they stand.
-    pub fn of(alloc: Global, bytes: &[u8]) -> Result<Name, AllocError>
+    pub fn of(alloc: Global, bytes: &[u8]) -> Result<Name, Memory>
         ensures bytes { IfOk result (λ name. name ≡ bytes.now) }
     {
         Ok(Name {
-            bytes: Vec::from_slice(alloc, bytes)?,
+            bytes: Packed::of(alloc, bytes)?,
+        })
+    }
+
+    /// The name of the bytes of a piece of memory as they stand.
+    pub fn from_vec(alloc: Global, bytes: Vec<u8>) -> Result<Name, Memory>
+        ensures bytes { IfOk result (λ name. name ≡ bytes.items) }
+    {
+        Ok(Name {
+            bytes: Packed::from_vec(alloc, bytes)?,
         })
     }
 
     /// The name that a field gives: its bytes, large letters as small ones.
-    pub fn folded(alloc: Global, field: &[u8]) -> Result<Name, AllocError>
+    pub fn folded(alloc: Global, field: &[u8]) -> Result<Name, Memory>
         ensures folded { IfOk result (λ name. name ≡ folded field.now) }
     {
         Ok(Name {
-            bytes: field.to_ascii_lowercase(alloc)?,
+            bytes: Packed::folded(alloc, field)?,
         })
     }
 
@@ -51,7 +61,7 @@ impl Name {
     pub fn as_bytes(&self) -> &[u8]
         ensures bytes { result.now ≡ self.now }
     {
-        &self.bytes
+        self.bytes.as_bytes()
     }
 }
 

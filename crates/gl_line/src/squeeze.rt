@@ -16,7 +16,7 @@ fn begins_blank(text: &[u8]) -> bool
 }
 
 /// What becomes of a byte: the last blank of a run is a space, the others go, another byte stays.
-fn kept_byte(first: u8, behind: &[u8]) -> Option<u8>
+pub fn kept_byte(first: u8, behind: &[u8]) -> Option<u8>
     ensures kept { squeezed (first ∷ behind.now) ≡ option_to_list result ++ squeezed behind.now }
 {
     if !is_blank(first) {

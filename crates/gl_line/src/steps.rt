@@ -1,7 +1,7 @@
 ghost use Rattle.std.specs.Prelude.{◌≡◌, ◌<◌, ◌+◌, ◌^◌, ◌∷◌, [], List, length, IfSome, MatchOption, OnSome};
 ghost use Rattle.gl_text.specs.LogicalLines.{Line, begins, logical_lines, up_to_long, up_to_end};
 ghost use Rattle.std.specs.Cow.{cow_slice_items};
-ghost use Rattle.gl_line.specs.Gives.{Gives, left_of, FewLeft};
+ghost use Rattle.gl_line.specs.Answers.{GivesFirst, IsTold, left_of, FewLeft};
 
 use crate::end::is_end;
 use crate::fault::LineFault;
@@ -27,11 +27,12 @@ pub struct Step<'a> {
 /// The bytes that a logical line may have.
 const LONGEST: usize = 131_072;
 
-/// The logical line with this text, or that it is too long.
+/// The logical line with this text, or that it is too long. It takes no memory, and never tells of want of it.
 fn judged<'a>(line: u32, text: CowSlice<'a, u8, Global>, left: Left<'a>) -> Step<'a>
     requires few { left.line + length left.bytes.now < 2 ^ 32 }
     requires fits { length (cow_slice_items text) < 2 ^ 32 }
-    ensures given { (ls : List Line) → logical_lines left.entry.line left.entry.bytes.now ≡ up_to_long (up_to_end ls) → Gives result.given (up_to_long (up_to_end ((record { line = line; text = cow_slice_items text.entry }) ∷ ls))) (left_of result.left) }
+    ensures given { (ls : List Line) → logical_lines left.entry.line left.entry.bytes.now ≡ up_to_long (up_to_end ls) → GivesFirst result.given (up_to_long (up_to_end ((record { line = line; text = cow_slice_items text.entry }) ∷ ls))) (left_of result.left) }
+    ensures told { IsTold result.given }
     ensures few { FewLeft result.left }
 {
     let len = text.len();
@@ -67,7 +68,7 @@ fn is_more(text: &[u8]) -> bool
 /// The first logical line.
 pub fn next_step<'a>(alloc: Global, bytes: &'a [u8], first: u32) -> Option<Step<'a>>
     requires few { first + length bytes.now < 2 ^ 32 }
-    ensures given { MatchOption result (logical_lines first bytes.now ≡ []) (λ s. Gives s.given (logical_lines first bytes.now) (left_of s.left)) }
+    ensures given { MatchOption result (logical_lines first bytes.now ≡ []) (λ s. GivesFirst s.given (logical_lines first bytes.now) (left_of s.left)) }
     ensures few { IfSome result (λ s. FewLeft s.left) }
 {
     let kept = next_kept(bytes, first)?;

@@ -1,16 +1,17 @@
 ghost use Rattle.std.specs.Prelude.{◌≡◌, IfOk};
 ghost use Rattle.gl_text.specs.LogicalLines.{tail_of};
 
-use crate::squeeze::squeeze;
+use crate::packed::Packed;
 use crate::trim::{trim_end, trim_loose};
-use std::alloc::{AllocError, Global};
+use gl_fault::Memory;
+use std::alloc::Global;
 use std::marker::Model;
 
-/// A tail: what follows a card's last field, normalised. Contracts see it as the list of its bytes.
+/// A tail: what follows a card's last field, normalised; up to 22 bytes stand in place. Contracts see it as the list of
+/// its bytes.
 #[derive(Debug, Drop)]
 pub struct Tail {
-    /// The bytes.
-    pub bytes: Vec<u8>,
+    bytes: Packed,
 }
 
 impl Model for Tail {
@@ -18,17 +19,26 @@ impl Model for Tail {
 
     ghost Value = { List ℕ };
 
-    ghost view = { λ t. t.bytes.items };
+    ghost view = { λ t. t.bytes };
 }
 
 impl Tail {
     /// The tail of the text behind a card's last field: without blanks, commas and closing parentheses at its front
     /// and blanks at its end, and with one space for each run of blanks. Letters keep their case.
-    pub fn normal(alloc: Global, text: &[u8]) -> Result<Tail, AllocError>
+    pub fn normal(alloc: Global, text: &[u8]) -> Result<Tail, Memory>
         ensures normal { IfOk result (λ tail. tail ≡ tail_of text.now) }
     {
         Ok(Tail {
-            bytes: squeeze(alloc, trim_end(trim_loose(text)))?,
+            bytes: Packed::squeezed(alloc, trim_end(trim_loose(text)))?,
+        })
+    }
+
+    /// The tail of the bytes as they stand.
+    pub fn of(alloc: Global, bytes: &[u8]) -> Result<Tail, Memory>
+        ensures bytes { IfOk result (λ tail. tail ≡ bytes.now) }
+    {
+        Ok(Tail {
+            bytes: Packed::of(alloc, bytes)?,
         })
     }
 
@@ -36,6 +46,6 @@ impl Tail {
     pub fn as_bytes(&self) -> &[u8]
         ensures bytes { result.now ≡ self.now }
     {
-        &self.bytes
+        self.bytes.as_bytes()
     }
 }
