@@ -5,8 +5,8 @@ use Rattle.std.proofs.lemmas.Bool.{cases_Bool, eqb-true, eq-eqb}
 use Rattle.std.proofs.lemmas.List.Sums.{sum_by-append, sum_by-cons}
 use Rattle.gl_text.specs.Decks.{Sub, Body, dev_at, call_at, callees}
 use Rattle.gl_text.specs.Cards.{Device}
-use Rattle.gl_deck.specs.Levels.{place_in}
-use Rattle.gl_deck.specs.CallCounts.{place_called, is_place, calls_on, calls_from, times}
+use Rattle.gl_deck.specs.Places.{place_in, place_called}
+use Rattle.gl_deck.specs.CallCounts.{is_place, calls_on, calls_from, times}
 use Rattle.gl_deck.proofs.Members.{In}
 
 -- ---- places
@@ -69,10 +69,10 @@ some_called subs (call_at line c ∷ cards) p h =
 -- ---- subcircuits that have no number yet
 
 pub open_calls : List Sub → List Sub → List ℕ → ℕ → ℕ
-open_calls subs [] levels p = 0
+open_calls subs [] ranks p = 0
 open_calls subs (s ∷ ss) [] p = 0
-open_calls subs (s ∷ ss) (zero ∷ levels) p = calls_on subs s.cards p + open_calls subs ss levels p
-open_calls subs (s ∷ ss) (suc l ∷ levels) p = open_calls subs ss levels p
+open_calls subs (s ∷ ss) (zero ∷ ranks) p = calls_on subs s.cards p + open_calls subs ss ranks p
+open_calls subs (s ∷ ss) (suc l ∷ ranks) p = open_calls subs ss ranks p
 
 -- at first none has one
 pub all_open : (subs ss : List Sub) (n p : ℕ) → length ss ≡ n → open_calls subs ss (replicate n 0) p ≡ calls_from subs ss p
@@ -83,80 +83,80 @@ all_open subs (s ∷ ss) (suc n) p e =
     ap (λ k. calls_on subs s.cards p + k) (all_open subs ss n p (omega arith)) ∙ sym (sum_by-cons (λ (u : Sub). calls_on subs u.cards p) s ss)
 
 -- one more that gets a number takes its calls away
-pub open_less : (subs ss : List Sub) (levels : List ℕ) (i l p : ℕ) (s : Sub) → slice_get ss i ≡ Some s → i < length levels → get_or levels i 0 ≡ 0 → 0 < l
-    → open_calls subs ss levels p ≡ open_calls subs ss (set levels i l) p + calls_on subs s.cards p
+pub open_less : (subs ss : List Sub) (ranks : List ℕ) (i l p : ℕ) (s : Sub) → slice_get ss i ≡ Some s → i < length ranks → get_or ranks i 0 ≡ 0 → 0 < l
+    → open_calls subs ss ranks p ≡ open_calls subs ss (set ranks i l) p + calls_on subs s.cards p
 unfolding open_calls
-open_less subs [] levels i l p s at low none some = absurd cc
+open_less subs [] ranks i l p s at low none some = absurd cc
 open_less subs (u ∷ ss) [] i l p s at low none some = absurd (omega (arith, low))
-open_less subs (u ∷ ss) (zero ∷ levels) zero zero p s at low none some = absurd (omega (arith, some))
-open_less subs (u ∷ ss) (zero ∷ levels) zero (suc l) p s at low none some =
+open_less subs (u ∷ ss) (zero ∷ ranks) zero zero p s at low none some = absurd (omega (arith, some))
+open_less subs (u ∷ ss) (zero ∷ ranks) zero (suc l) p s at low none some =
     let same : u ≡ s = cc in
     let e : calls_on subs u.cards p ≡ calls_on subs s.cards p = ap (λ (v : Sub). calls_on subs v.cards p) same in
     omega (arith, e)
-open_less subs (u ∷ ss) (suc m ∷ levels) zero l p s at low none some = absurd (omega (arith, none))
-open_less subs (u ∷ ss) (zero ∷ levels) (suc i) l p s at low none some =
-    let h = open_less subs ss levels i l p s at (omega (arith, low)) none some in omega (arith, h)
-open_less subs (u ∷ ss) (suc m ∷ levels) (suc i) l p s at low none some = open_less subs ss levels i l p s at (omega (arith, low)) none some
+open_less subs (u ∷ ss) (suc m ∷ ranks) zero l p s at low none some = absurd (omega (arith, none))
+open_less subs (u ∷ ss) (zero ∷ ranks) (suc i) l p s at low none some =
+    let h = open_less subs ss ranks i l p s at (omega (arith, low)) none some in omega (arith, h)
+open_less subs (u ∷ ss) (suc m ∷ ranks) (suc i) l p s at low none some = open_less subs ss ranks i l p s at (omega (arith, low)) none some
 
 -- one that has none counts
-pub open_some : (subs ss : List Sub) (levels : List ℕ) (q p : ℕ) (s : Sub) (n : List ℕ) → slice_get ss q ≡ Some s → q < length levels → get_or levels q 0 ≡ 0
-    → In n (callees s.cards) → place_in subs n ≡ Some p → 1 ≤ open_calls subs ss levels p
+pub open_some : (subs ss : List Sub) (ranks : List ℕ) (q p : ℕ) (s : Sub) (n : List ℕ) → slice_get ss q ≡ Some s → q < length ranks → get_or ranks q 0 ≡ 0
+    → In n (callees s.cards) → place_in subs n ≡ Some p → 1 ≤ open_calls subs ss ranks p
 unfolding open_calls
-open_some subs [] levels q p s n at low none called place = absurd cc
+open_some subs [] ranks q p s n at low none called place = absurd cc
 open_some subs (u ∷ ss) [] q p s n at low none called place = absurd (omega (arith, low))
-open_some subs (u ∷ ss) (zero ∷ levels) zero p s n at low none called place =
+open_some subs (u ∷ ss) (zero ∷ ranks) zero p s n at low none called place =
     let same : s ≡ u = cc in
     let h = called_some subs u.cards n p (subst (λ (v : Sub). In n (callees v.cards)) same called) place in
     omega (arith, h)
-open_some subs (u ∷ ss) (suc m ∷ levels) zero p s n at low none called place = absurd (omega (arith, none))
-open_some subs (u ∷ ss) (zero ∷ levels) (suc q) p s n at low none called place =
-    let h = open_some subs ss levels q p s n at (omega (arith, low)) none called place in omega (arith, h)
-open_some subs (u ∷ ss) (suc m ∷ levels) (suc q) p s n at low none called place = open_some subs ss levels q p s n at (omega (arith, low)) none called place
+open_some subs (u ∷ ss) (suc m ∷ ranks) zero p s n at low none called place = absurd (omega (arith, none))
+open_some subs (u ∷ ss) (zero ∷ ranks) (suc q) p s n at low none called place =
+    let h = open_some subs ss ranks q p s n at (omega (arith, low)) none called place in omega (arith, h)
+open_some subs (u ∷ ss) (suc m ∷ ranks) (suc q) p s n at low none called place = open_some subs ss ranks q p s n at (omega (arith, low)) none called place
 
 -- a caller that has none
-pub record OpenCall (subs ss : List Sub) (levels : List ℕ) (p : ℕ) : Type 0 where
+pub record OpenCall (subs ss : List Sub) (ranks : List ℕ) (p : ℕ) : Type 0 where
   pub place : ℕ
   pub caller : Sub
   pub at : slice_get ss place ≡ Some caller
-  pub none : get_or levels place 0 ≡ 0
+  pub none : get_or ranks place 0 ≡ 0
   pub calls : Calls subs caller.cards p
 
-behind : (subs ss : List Sub) (u : Sub) (l : ℕ) (levels : List ℕ) (p : ℕ) → OpenCall subs ss levels p → OpenCall subs (u ∷ ss) (l ∷ levels) p
-behind subs ss u l levels p h = record { place = suc h.place; caller = h.caller; at = h.at; none = h.none; calls = h.calls }
+behind : (subs ss : List Sub) (u : Sub) (l : ℕ) (ranks : List ℕ) (p : ℕ) → OpenCall subs ss ranks p → OpenCall subs (u ∷ ss) (l ∷ ranks) p
+behind subs ss u l ranks p h = record { place = suc h.place; caller = h.caller; at = h.at; none = h.none; calls = h.calls }
 
 first_or : (a b : ℕ) → 1 ≤ a + b → (1 ≤ a) ⊎ (1 ≤ b)
 first_or zero b h = inr (omega (arith, h))
 first_or (suc a) b h = inl (omega arith)
 
-found_by : (subs ss : List Sub) (u : Sub) (levels : List ℕ) (p : ℕ) → (1 ≤ open_calls subs ss levels p → OpenCall subs ss levels p) → (1 ≤ calls_on subs u.cards p) ⊎ (1 ≤ open_calls subs ss levels p) → OpenCall subs (u ∷ ss) (zero ∷ levels) p
-found_by subs ss u levels p later (inl h) = record { place = 0; caller = u; at = refl; none = refl; calls = some_called subs u.cards p h }
-found_by subs ss u levels p later (inr h) = behind subs ss u zero levels p (later h)
+found_by : (subs ss : List Sub) (u : Sub) (ranks : List ℕ) (p : ℕ) → (1 ≤ open_calls subs ss ranks p → OpenCall subs ss ranks p) → (1 ≤ calls_on subs u.cards p) ⊎ (1 ≤ open_calls subs ss ranks p) → OpenCall subs (u ∷ ss) (zero ∷ ranks) p
+found_by subs ss u ranks p later (inl h) = record { place = 0; caller = u; at = refl; none = refl; calls = some_called subs u.cards p h }
+found_by subs ss u ranks p later (inr h) = behind subs ss u zero ranks p (later h)
 
 -- where one counts, there is one
-pub open_found : (subs ss : List Sub) (levels : List ℕ) (p : ℕ) → 1 ≤ open_calls subs ss levels p → OpenCall subs ss levels p
+pub open_found : (subs ss : List Sub) (ranks : List ℕ) (p : ℕ) → 1 ≤ open_calls subs ss ranks p → OpenCall subs ss ranks p
 unfolding open_calls
-open_found subs [] levels p h = absurd (omega (arith, h))
+open_found subs [] ranks p h = absurd (omega (arith, h))
 open_found subs (u ∷ ss) [] p h = absurd (omega (arith, h))
-open_found subs (u ∷ ss) (zero ∷ levels) p h = found_by subs ss u levels p (open_found subs ss levels p) (first_or (calls_on subs u.cards p) (open_calls subs ss levels p) h)
-open_found subs (u ∷ ss) (suc m ∷ levels) p h = behind subs ss u (suc m) levels p (open_found subs ss levels p h)
+open_found subs (u ∷ ss) (zero ∷ ranks) p h = found_by subs ss u ranks p (open_found subs ss ranks p) (first_or (calls_on subs u.cards p) (open_calls subs ss ranks p) h)
+open_found subs (u ∷ ss) (suc m ∷ ranks) p h = behind subs ss u (suc m) ranks p (open_found subs ss ranks p h)
 
 -- ---- how many have none
 
 pub zeros : List ℕ → ℕ
 zeros [] = 0
-zeros (zero ∷ levels) = suc (zeros levels)
-zeros (suc l ∷ levels) = zeros levels
+zeros (zero ∷ ranks) = suc (zeros ranks)
+zeros (suc l ∷ ranks) = zeros ranks
 
 pub zeros_all : (n : ℕ) → zeros (replicate n 0) ≡ n
 unfolding zeros
 zeros_all zero = refl
 zeros_all (suc n) = ap suc (zeros_all n)
 
-pub zeros_less : (levels : List ℕ) (i l : ℕ) → i < length levels → get_or levels i 0 ≡ 0 → 0 < l → zeros levels ≡ suc (zeros (set levels i l))
+pub zeros_less : (ranks : List ℕ) (i l : ℕ) → i < length ranks → get_or ranks i 0 ≡ 0 → 0 < l → zeros ranks ≡ suc (zeros (set ranks i l))
 unfolding zeros
 zeros_less [] i l low none some = absurd (omega (arith, low))
-zeros_less (zero ∷ levels) zero zero low none some = absurd (omega (arith, some))
-zeros_less (zero ∷ levels) zero (suc l) low none some = refl
-zeros_less (suc m ∷ levels) zero l low none some = absurd (omega (arith, none))
-zeros_less (zero ∷ levels) (suc i) l low none some = ap suc (zeros_less levels i l (omega (arith, low)) none some)
-zeros_less (suc m ∷ levels) (suc i) l low none some = zeros_less levels i l (omega (arith, low)) none some
+zeros_less (zero ∷ ranks) zero zero low none some = absurd (omega (arith, some))
+zeros_less (zero ∷ ranks) zero (suc l) low none some = refl
+zeros_less (suc m ∷ ranks) zero l low none some = absurd (omega (arith, none))
+zeros_less (zero ∷ ranks) (suc i) l low none some = ap suc (zeros_less ranks i l (omega (arith, low)) none some)
+zeros_less (suc m ∷ ranks) (suc i) l low none some = zeros_less ranks i l (omega (arith, low)) none some

@@ -6,8 +6,10 @@ use Rattle.std.proofs.lemmas.Bool.{lt-ltb}
 use Rattle.std.proofs.lemmas.List.{append-nil}
 use Rattle.std.specs.Map.{values_of}
 use Rattle.gl_text.specs.LogicalLines.{Fault, open_subckt}
-use Rattle.gl_text.specs.Cards.{Head, Model, Card, dev, call, model, subckt, ends, global, ended, passed, first_some, when, or_else}
-use Rattle.gl_text.specs.Decks.{Body, Sub, Deck, Scope, Placed, ◌>>=◌, is_inside, bodies, sub_of, model_of, globals_of, once, deck_by, left_open, call_fault}
+use Rattle.gl_fault.proofs.FirstLaws.{only, first_behind}
+use Rattle.gl_fault.specs.Refusals.{first_some, when, or_else, ◌>>=◌}
+use Rattle.gl_text.specs.Cards.{Head, Model, Card, dev, call, model, subckt, ends, global, ended, passed}
+use Rattle.gl_text.specs.Decks.{Body, Sub, Deck, Scope, Placed, is_inside, bodies, sub_of, model_of, globals_of, once, deck_by, left_open, call_fault}
 use Rattle.gl_deck.specs.Calls.{Site, site_fault}
 use Rattle.gl_deck.specs.Drafts.{Draft, calls_in, deck_of, finished, without_zero}
 use Rattle.gl_deck.proofs.GlobalLaws.{keys_once}
@@ -57,14 +59,10 @@ deck_same b cards d title h =
 
 -- ---- the refusals of calls
 
-first_tail : (o : Option Fault) (xs ys : List (Option Fault)) → first_some xs ≡ first_some ys → first_some (o ∷ xs) ≡ first_some (o ∷ ys)
-first_tail None xs ys h = h
-first_tail (Some f) xs ys h = refl
-
 calls_by : (subs : List Sub) (s : Scope) (k : ℕ) (card : Card) (xs : List (Option Fault)) (ss : List Site) → first_some xs ≡ first_some (map (site_fault subs) ss)
     → first_some (call_fault subs (record { scope = s; line = k; card = card }) ∷ xs) ≡ first_some (map (site_fault subs) (cons_option (site_by s k card) ss))
 calls_by subs s k (dev c) xs ss h = h
-calls_by subs s k (call c) xs ss h = first_tail (call_fault subs (record { scope = s; line = k; card = call c })) xs (map (site_fault subs) ss) h
+calls_by subs s k (call c) xs ss h = first_behind (call_fault subs (record { scope = s; line = k; card = call c })) xs (map (site_fault subs) ss) h
 calls_by subs s k (model m) xs ss h = h
 calls_by subs s k (subckt g) xs ss h = h
 calls_by subs s k (ends name) xs ss h = h
@@ -89,10 +87,6 @@ open_at s = when (is_inside s) (open_subckt s.line)
 
 abbrev with_open : Option Sub → Option Fault → Deck → Result Deck Fault
 with_open cur o deck = or_else (first_some (option_map (λ (s : Sub). open_subckt s.line) cur ∷ o ∷ [])) deck
-
-only : (x : Option Fault) → first_some (x ∷ []) ≡ x
-only None = refl
-only (Some f) = refl
 
 ends_well : (b : ℕ) (cards : List Placed) (d : Draft) (title : List ℕ) → IsDraftOf b cards None d → finished title d ≡ whole title cards
 ends_well b cards d title h =

@@ -4,15 +4,13 @@ use Rattle.std.specs.Prelude.{is_some, not, ◌&&◌, codes}
 use Rattle.std.specs.Map.{lookup}
 use Rattle.std.proofs.lemmas.Bool.{lt-ltb}
 use Rattle.gl_text.specs.LogicalLines.{Fault, Line, same_text, nested_subckt, loose_ends, wrong_ends, local_card, duplicate_port, zero_port}
-use Rattle.gl_text.specs.Cards.{Card, dev, call, model, subckt, ends, global, ended, passed, first_some, when, has_parameters, has_long_tail}
+use Rattle.gl_fault.proofs.FirstLaws.{only, none_first}
+use Rattle.gl_fault.specs.Refusals.{first_some, when}
+use Rattle.gl_text.specs.Cards.{Card, dev, call, model, subckt, ends, global, ended, passed, has_parameters, has_long_tail}
 use Rattle.gl_text.specs.Decks.{Sub, Placed, is_inside, is_of_top, is_in, has_twice, ports_of, nested, bad_ends, duplicate}
 use Rattle.gl_deck.specs.Drafts.{Draft, scope_of, known_at, nested_in, bad_ends_in, local_in, twice_in, zero_in}
 use Rattle.gl_deck.proofs.PlacedLists.{placed, IsNumbered}
 use Rattle.gl_deck.proofs.NameSteps.{known_first, found_model, found_nothing, dup_here, dup_top, HasNames, dup_at}
-
-only : (x : Option Fault) → first_some (x ∷ []) ≡ x
-only None = refl
-only (Some f) = refl
 
 -- ---- where a card stands
 
@@ -96,22 +94,18 @@ faults_same cards (Some s) d l (passed text) n h = by_parts cards (Some s) d l (
 
 -- ---- where there is no refusal
 
-first_none : (o : Option Fault) (os : List (Option Fault)) → first_some (o ∷ os) ≡ None → (o ≡ None) × (first_some os ≡ None)
-first_none None os h = (refl, h)
-first_none (Some f) os h = absurd cc
-
 unknown : (l : ℕ) (o : Option ℕ) → known_first l o ≡ None → o ≡ None
 unknown l None h = refl
 unknown l (Some n) h = absurd cc
 
 pub nothing_nested : (cur : Option Sub) (d : Draft) (l : Line) (card : Card) → fault_at cur d l card ≡ None → nested_in cur l.line card ≡ None
-nothing_nested cur d l card h = (first_none (nested_in cur l.line card) _ h).0
+nothing_nested cur d l card h = (none_first (nested_in cur l.line card) _ h).0
 
 pub nothing_known : (cur : Option Sub) (d : Draft) (l : Line) (card : Card) → fault_at cur d l card ≡ None → known_at cur d card ≡ None
 nothing_known cur d l card h =
     let last : List (Option Fault) = twice_in l.line card ∷ zero_in l.line card ∷ has_long_tail l ∷ [] in
-    let a = (first_none (nested_in cur l.line card) (bad_ends_in cur l.line card ∷ local_in cur l.line card ∷ has_parameters l ∷ dup_at cur d l.line card ∷ last) h).1 in
-    let b = (first_none (bad_ends_in cur l.line card) (local_in cur l.line card ∷ has_parameters l ∷ dup_at cur d l.line card ∷ last) a).1 in
-    let c = (first_none (local_in cur l.line card) (has_parameters l ∷ dup_at cur d l.line card ∷ last) b).1 in
-    let e = (first_none (has_parameters l) (dup_at cur d l.line card ∷ last) c).1 in
-    unknown l.line (known_at cur d card) (first_none (dup_at cur d l.line card) last e).0
+    let a = (none_first (nested_in cur l.line card) (bad_ends_in cur l.line card ∷ local_in cur l.line card ∷ has_parameters l ∷ dup_at cur d l.line card ∷ last) h).1 in
+    let b = (none_first (bad_ends_in cur l.line card) (local_in cur l.line card ∷ has_parameters l ∷ dup_at cur d l.line card ∷ last) a).1 in
+    let c = (none_first (local_in cur l.line card) (has_parameters l ∷ dup_at cur d l.line card ∷ last) b).1 in
+    let e = (none_first (has_parameters l) (dup_at cur d l.line card ∷ last) c).1 in
+    unknown l.line (known_at cur d card) (none_first (dup_at cur d l.line card) last e).0

@@ -8,7 +8,7 @@ pub mod DraftTables
 pub mod FaultLaws
 pub mod FaultSteps
 pub mod GlobalLaws
-pub mod LevelLaws
+pub mod UpLaws
 pub mod LoopLaws
 pub mod MarkLaws
 pub mod MarkedLaws

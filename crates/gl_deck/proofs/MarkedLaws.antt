@@ -5,7 +5,7 @@ use Rattle.std.specs.List.{IsDistinct}
 use Rattle.gl_text.specs.LogicalLines.{same_text}
 use Rattle.gl_text.specs.Decks.{Sub, reaches, steps}
 use Rattle.gl_deck.specs.Bodies.{names_of}
-use Rattle.gl_deck.specs.Levels.{place_in}
+use Rattle.gl_deck.specs.Places.{place_in}
 use Rattle.gl_deck.specs.Walks.{Walk, is_marked_at, is_marked}
 use Rattle.gl_deck.proofs.CallLaws.{exact, itself}
 use Rattle.gl_deck.proofs.Members.{In, in_any, from_any, in_at}

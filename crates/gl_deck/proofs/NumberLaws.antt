@@ -2,28 +2,28 @@
 use Rattle.std.proofs.Common.{◌≡◌, ◌+◌, ◌<◌, ◌≤◌, min, ℕ, zero, suc, List, [], ◌∷◌, ◌++◌, length, Option, Some, set, get_or, replicate, refl, sym, ap, subst, ◌∙◌, arith, inl, inr}
 use Rattle.std.specs.Prelude.{◌⊎◌, slice_get}
 use Rattle.gl_text.specs.Decks.{Sub, callees}
-use Rattle.gl_deck.specs.Levels.{place_in}
+use Rattle.gl_deck.specs.Places.{place_in}
 use Rattle.gl_deck.specs.CallCounts.{calls_on, calls_from, cards_at, times, uncalled_at}
 use Rattle.gl_deck.proofs.Members.{In}
 use Rattle.gl_deck.proofs.CountLaws.{Once, all_open, once, open_calls, open_less, times_last, zeros, zeros_all, zeros_less}
 
 -- one where a subcircuit has a number
 abbrev pub numbered : List ℕ → ℕ → ℕ
-numbered levels p = min 1 (get_or levels p 0)
+numbered ranks p = min 1 (get_or ranks p 0)
 
 -- a caller has a greater number than what it calls, where that has one
 abbrev pub Ordered : List Sub → List ℕ → Type 0
-Ordered subs levels = (q p : ℕ) (s : Sub) (n : List ℕ) → slice_get subs q ≡ Some s → In n (callees s.cards) → place_in subs n ≡ Some p → 0 < get_or levels p 0 → get_or levels p 0 < get_or levels q 0
+Ordered subs ranks = (q p : ℕ) (s : Sub) (n : List ℕ) → slice_get subs q ≡ Some s → In n (callees s.cards) → place_in subs n ≡ Some p → 0 < get_or ranks p 0 → get_or ranks p 0 < get_or ranks q 0
 
 -- so many have no number yet; calls are counted for these; where nothing calls, one is ready or has a number
-pub record IsNumbering (subs : List Sub) (calls ready levels : List ℕ) (next : ℕ) : Type 0 where
+pub record IsNumbering (subs : List Sub) (calls ready ranks : List ℕ) (next : ℕ) : Type 0 where
   pub calls_sized : length calls ≡ length subs
-  pub sized : length levels ≡ length subs
-  pub left : zeros levels ≡ next
-  pub counted : (p : ℕ) → get_or calls p 0 ≡ open_calls subs subs levels p
-  pub waiting : (p : ℕ) → times p ready + numbered levels p ≡ uncalled_at calls p
-  pub greater : (p : ℕ) → 0 < get_or levels p 0 → next < get_or levels p 0
-  pub ordered : Ordered subs levels
+  pub sized : length ranks ≡ length subs
+  pub left : zeros ranks ≡ next
+  pub counted : (p : ℕ) → get_or calls p 0 ≡ open_calls subs subs ranks p
+  pub waiting : (p : ℕ) → times p ready + numbered ranks p ≡ uncalled_at calls p
+  pub greater : (p : ℕ) → 0 < get_or ranks p 0 → next < get_or ranks p 0
+  pub ordered : Ordered subs ranks
 
 pub some_or : (n : ℕ) → (n ≡ 0) ⊎ (0 < n)
 some_or zero = inl refl
@@ -52,28 +52,28 @@ begins subs calls ready sized counted waiting = record {
   ordered = λ q p s n at called place some. let e = none_yet (length subs) p in absurd (omega (arith, e, some));
 }
 
-pub begins_with : (subs : List Sub) (calls ready levels : List ℕ) (n next : ℕ) → n ≡ length subs → levels ≡ replicate {A = ℕ} n 0 → next ≡ length subs → length calls ≡ length subs
-    → ((p : ℕ) → get_or calls p 0 ≡ calls_from subs subs p) → ((p : ℕ) → times p ready ≡ uncalled_at calls p) → IsNumbering subs calls ready levels next
-begins_with subs calls ready levels n next size is top sized counted waiting =
-    let e : levels ≡ replicate {A = ℕ} (length subs) 0 = is ∙ ap (λ k. replicate {A = ℕ} k 0) size in
-    subst (λ k. IsNumbering subs calls ready levels k) (sym top) (subst (λ ls. IsNumbering subs calls ready ls (length subs)) (sym e) (begins subs calls ready sized counted waiting))
+pub begins_with : (subs : List Sub) (calls ready ranks : List ℕ) (n next : ℕ) → n ≡ length subs → ranks ≡ replicate {A = ℕ} n 0 → next ≡ length subs → length calls ≡ length subs
+    → ((p : ℕ) → get_or calls p 0 ≡ calls_from subs subs p) → ((p : ℕ) → times p ready ≡ uncalled_at calls p) → IsNumbering subs calls ready ranks next
+begins_with subs calls ready ranks n next size is top sized counted waiting =
+    let e : ranks ≡ replicate {A = ℕ} (length subs) 0 = is ∙ ap (λ k. replicate {A = ℕ} k 0) size in
+    subst (λ k. IsNumbering subs calls ready ranks k) (sym top) (subst (λ ls. IsNumbering subs calls ready ls (length subs)) (sym e) (begins subs calls ready sized counted waiting))
 
 -- ---- one more number
 
 -- a place that is ready has no number, and nothing calls it
-pub record IsReady (subs : List Sub) (calls levels : List ℕ) (place : ℕ) : Type 0 where
+pub record IsReady (subs : List Sub) (calls ranks : List ℕ) (place : ℕ) : Type 0 where
   pub within : place < length subs
   pub uncalled : get_or calls place 0 ≡ 0
-  pub none : get_or levels place 0 ≡ 0
+  pub none : get_or ranks place 0 ≡ 0
 
 one_within : (xs : List ℕ) (p : ℕ) → get_or xs p 1 ≡ 0 → (p < length xs) × (get_or xs p 0 ≡ 0)
 one_within [] p e = absurd (omega (arith, e))
 one_within (x ∷ xs) zero e = (omega arith, e)
 one_within (x ∷ xs) (suc p) e = let h = one_within xs p e in (let g = h.0 in omega (arith, g), h.1)
 
-pub is_ready : (subs : List Sub) (calls ready all levels : List ℕ) (next place : ℕ) → IsNumbering subs calls all levels next → all ≡ ready ++ place ∷ [] → IsReady subs calls levels place
-is_ready subs calls ready all levels next place is e = by (once place place) where
-  by : Once place place → IsReady subs calls levels place
+pub is_ready : (subs : List Sub) (calls ready all ranks : List ℕ) (next place : ℕ) → IsNumbering subs calls all ranks next → all ≡ ready ++ place ∷ [] → IsReady subs calls ranks place
+is_ready subs calls ready all ranks next place is e = by (once place place) where
+  by : Once place place → IsReady subs calls ranks place
   by (inl h) =
       let w = is.waiting place in
       let a = ap (times place) e in
@@ -86,16 +86,16 @@ is_ready subs calls ready all levels next place is e = by (once place place) whe
       record { within = omega (arith, low, sized); uncalled = at.1; none = omega (arith, w, a, l, one) }
   by (inr h) = absurd (h.0 refl)
 
-some_left : (levels : List ℕ) (i : ℕ) → i < length levels → get_or levels i 0 ≡ 0 → 1 ≤ zeros levels
-some_left levels i low none = let h = zeros_less levels i 1 low none (omega arith) in omega (arith, h)
+some_left : (ranks : List ℕ) (i : ℕ) → i < length ranks → get_or ranks i 0 ≡ 0 → 1 ≤ zeros ranks
+some_left ranks i low none = let h = zeros_less ranks i 1 low none (omega arith) in omega (arith, h)
 
 -- so there is one number more
-pub more_left : (subs : List Sub) (calls ready levels : List ℕ) (next place : ℕ) → IsNumbering subs calls ready levels next → IsReady subs calls levels place → 1 ≤ next
-more_left subs calls ready levels next place is at =
+pub more_left : (subs : List Sub) (calls ready ranks : List ℕ) (next place : ℕ) → IsNumbering subs calls ready ranks next → IsReady subs calls ranks place → 1 ≤ next
+more_left subs calls ready ranks next place is at =
     let sized = is.sized in
     let within = at.within in
     let left = is.left in
-    let h = some_left levels place (omega (arith, sized, within)) at.none in
+    let h = some_left ranks place (omega (arith, sized, within)) at.none in
     omega (arith, h, left)
 
 there : {A : Type 0} (xs : List A) (k : ℕ) → k < length xs → (x : A) × (slice_get xs k ≡ Some x)
@@ -104,30 +104,30 @@ there (x ∷ xs) zero h = (x, refl)
 there (x ∷ xs) (suc k) h = there xs k (omega (arith, h))
 
 -- its calls go
-pub calls_go : (subs : List Sub) (calls ready levels : List ℕ) (next place p : ℕ) → IsNumbering subs calls ready levels next → IsReady subs calls levels place
-    → get_or calls p 0 ≡ open_calls subs subs (set levels place next) p + calls_on subs (cards_at (slice_get subs place)) p
-calls_go subs calls ready levels next place p is at =
+pub calls_go : (subs : List Sub) (calls ready ranks : List ℕ) (next place p : ℕ) → IsNumbering subs calls ready ranks next → IsReady subs calls ranks place
+    → get_or calls p 0 ≡ open_calls subs subs (set ranks place next) p + calls_on subs (cards_at (slice_get subs place)) p
+calls_go subs calls ready ranks next place p is at =
     let s = there subs place at.within in
     let sized = is.sized in
     let within = at.within in
-    let some = more_left subs calls ready levels next place is at in
-    let less = open_less subs subs levels place next p s.0 s.1 (omega (arith, sized, within)) at.none (omega (arith, some)) in
+    let some = more_left subs calls ready ranks next place is at in
+    let less = open_less subs subs ranks place next p s.0 s.1 (omega (arith, sized, within)) at.none (omega (arith, some)) in
     let e : calls_on subs (cards_at (slice_get subs place)) p ≡ calls_on subs s.0.cards p = ap (λ (o : Option Sub). calls_on subs (cards_at o) p) s.1 in
     let c = is.counted p in
     omega (arith, less, e, c)
 
 -- the same of the last of those that are ready
-pub last_within : {subs : List Sub} {calls all levels : List ℕ} {next : ℕ} (ready : List ℕ) (place : ℕ) → IsNumbering subs calls all levels next → all ≡ ready ++ place ∷ [] → place < length levels
-last_within {subs} {calls} {all} {levels} {next} ready place is e =
-    let at = is_ready subs calls ready all levels next place is e in
+pub last_within : {subs : List Sub} {calls all ranks : List ℕ} {next : ℕ} (ready : List ℕ) (place : ℕ) → IsNumbering subs calls all ranks next → all ≡ ready ++ place ∷ [] → place < length ranks
+last_within {subs} {calls} {all} {ranks} {next} ready place is e =
+    let at = is_ready subs calls ready all ranks next place is e in
     let within = at.within in
     let sized = is.sized in
     omega (arith, within, sized)
 
-pub last_left : {subs : List Sub} {calls all levels : List ℕ} {next : ℕ} (ready : List ℕ) (place : ℕ) → IsNumbering subs calls all levels next → all ≡ ready ++ place ∷ [] → 1 ≤ next
-last_left {subs} {calls} {all} {levels} {next} ready place is e = more_left subs calls all levels next place is (is_ready subs calls ready all levels next place is e)
+pub last_left : {subs : List Sub} {calls all ranks : List ℕ} {next : ℕ} (ready : List ℕ) (place : ℕ) → IsNumbering subs calls all ranks next → all ≡ ready ++ place ∷ [] → 1 ≤ next
+last_left {subs} {calls} {all} {ranks} {next} ready place is e = more_left subs calls all ranks next place is (is_ready subs calls ready all ranks next place is e)
 
-pub last_enough : {subs : List Sub} {calls all levels : List ℕ} {next : ℕ} (ready : List ℕ) (place p : ℕ) → IsNumbering subs calls all levels next → all ≡ ready ++ place ∷ []
+pub last_enough : {subs : List Sub} {calls all ranks : List ℕ} {next : ℕ} (ready : List ℕ) (place p : ℕ) → IsNumbering subs calls all ranks next → all ≡ ready ++ place ∷ []
     → calls_on subs (cards_at (slice_get subs place)) p ≤ get_or calls p 0
-last_enough {subs} {calls} {all} {levels} {next} ready place p is e =
-    let h = calls_go subs calls all levels next place p is (is_ready subs calls ready all levels next place is e) in omega (arith, h)
+last_enough {subs} {calls} {all} {ranks} {next} ready place p is e =
+    let h = calls_go subs calls all ranks next place p is (is_ready subs calls ready all ranks next place is e) in omega (arith, h)

@@ -10,7 +10,7 @@ use Rattle.std.proofs.lemmas.Option.{slice_get_within, get_or_from_slice_get, sl
 use Rattle.gl_text.specs.LogicalLines.{same_text}
 use Rattle.gl_text.specs.Decks.{Sub}
 use Rattle.gl_deck.specs.Bodies.{names_of}
-use Rattle.gl_deck.specs.Levels.{place_in}
+use Rattle.gl_deck.specs.Places.{place_in}
 use Rattle.gl_deck.proofs.CallLaws.{exact, itself, flipped}
 
 place_by : (p : List ℕ → Bool) (names : List (List ℕ)) (k n : ℕ) → k < length names → n ≡ k → cond (ltb n (length names)) (Some n) None ≡ Some k

@@ -4,7 +4,7 @@ use Rattle.std.specs.Prelude.{◌⊎◌, map, filter, flat_map, IfSome, IsSome}
 use Rattle.std.specs.List.{AllByRecursion}
 use Rattle.gl_text.specs.LogicalLines.{same_text}
 use Rattle.gl_text.specs.Decks.{Sub, callees, find_sub, step, steps, reaches}
-use Rattle.gl_deck.specs.Levels.{NoneBack, AllThere, HasRank}
+use Rattle.gl_deck.specs.Ranks.{NoneBack, AllThere, HasRank}
 use Rattle.gl_deck.proofs.CallLaws.{exact, itself}
 use Rattle.gl_deck.proofs.Members.{In, all_in, all_of, in_left, in_map, in_filter, from_filter, in_any, is_in_from}
 use Rattle.gl_deck.proofs.ReachLaws.{names_on, on, filter_short, grow, some_of, Settled, settled, keeps, called_found, all_found}

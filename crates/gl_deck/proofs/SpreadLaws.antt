@@ -2,7 +2,7 @@
 use Rattle.std.proofs.Common.{◌≡◌, ℕ, List, [], ◌∷◌, length, Option, Some, None, refl, sym, ap, subst, ◌∙◌, arith, inl, inr}
 use Rattle.std.specs.Prelude.{◌⊎◌}
 use Rattle.gl_text.specs.Decks.{Sub}
-use Rattle.gl_deck.specs.Levels.{place_in}
+use Rattle.gl_deck.specs.Places.{place_in}
 use Rattle.gl_deck.specs.Walks.{Walk, marked, marked_at, marked_all}
 use Rattle.gl_deck.proofs.Members.{In}
 use Rattle.gl_deck.proofs.PlaceLaws.{place_within}

@@ -6,8 +6,8 @@ use Rattle.std.proofs.lemmas.List.{length-append}
 use Rattle.gl_text.specs.LogicalLines.{same_text}
 use Rattle.gl_text.specs.Decks.{Sub, callees}
 use Rattle.gl_deck.specs.Bodies.{names_of}
-use Rattle.gl_deck.specs.Levels.{place_in}
-use Rattle.gl_deck.specs.Walks.{Walk, marked_all, calls_of}
+use Rattle.gl_deck.specs.Places.{place_in}
+use Rattle.gl_deck.specs.Walks.{Walk, marked_all, called_names}
 use Rattle.gl_deck.proofs.Members.{In, in_left, in_right, from_append, at_in, in_at}
 use Rattle.gl_deck.proofs.ReachLaws.{Settled, called_found}
 use Rattle.gl_deck.proofs.PlaceLaws.{own_place, at_its_place}
@@ -71,7 +71,7 @@ done_old : (subs : List Sub) (w r new : Walk) (i j : ℕ) → ((k : ℕ) → In 
 done_old subs w r new i j up kept here e (inl p) = done_by subs w r new i j up kept here (from_append j r.pending (i ∷ []) (subst (λ (xs : List ℕ). In j xs) e p))
 done_old subs w r new i j up kept here e (inr l) = inr (λ s n k at called place. kept k (l s n k at called place))
 
-sound_new : (subs found : List Sub) (i j : ℕ) (u : Sub) (o : Option Sub) → slice_get subs i ≡ o → Settled subs found → ((s : Sub) → slice_get subs i ≡ Some s → In s found) → Placed subs (calls_of o) j → slice_get subs j ≡ Some u → In u found
+sound_new : (subs found : List Sub) (i j : ℕ) (u : Sub) (o : Option Sub) → slice_get subs i ≡ o → Settled subs found → ((s : Sub) → slice_get subs i ≡ Some s → In s found) → Placed subs (called_names o) j → slice_get subs j ≡ Some u → In u found
 sound_new subs found i j u None e settles h p at = absurd p.1
 sound_new subs found i j u (Some s) e settles h p at =
     let place = at_its_place subs p.0 j p.2 in
@@ -80,16 +80,16 @@ sound_new subs found i j u (Some s) e settles h p at =
     called_found subs found s u settles (h s e) (at_in u subs j at) (subst (λ (n : List ℕ). In n (callees s.cards)) (sym name) p.1)
 
 -- one that is pending is looked at
-pub advances : (subs found : List Sub) (t : Sub) (w r : Walk) (i : ℕ) → Settled subs found → IsWalk subs found t w → r.marks ≡ w.marks → w.pending ≡ r.pending ++ i ∷ [] → IsWalk subs found t (marked_all subs (calls_of (slice_get subs i)) r)
+pub advances : (subs found : List Sub) (t : Sub) (w r : Walk) (i : ℕ) → Settled subs found → IsWalk subs found t w → r.marks ≡ w.marks → w.pending ≡ r.pending ++ i ∷ [] → IsWalk subs found t (marked_all subs (called_names (slice_get subs i)) r)
 advances subs found t w r i settles walk same e =
-    let ns = calls_of (slice_get subs i) in
+    let ns = called_names (slice_get subs i) in
     let new = marked_all subs ns r in
     let sized : length r.marks ≡ length subs = ap length same ∙ walk.sized in
     let spread = spread_all subs ns r sized in
     let kept : (j : ℕ) → Marked w j → Marked new j = λ j m. spread.kept j (ap (λ bs. get_or bs j false) same ∙ m) in
     let back : (j : ℕ) → Marked r j → Marked w j = λ j m. ap (λ bs. get_or bs j false) (sym same) ∙ m in
     let mine : Marked w i = walk.pended i (subst (λ (xs : List ℕ). In i xs) (sym e) (in_right i r.pending (i ∷ []) (inl refl))) in
-    let here : Looked subs new i = λ s n j at called place. called_marked subs ns r n j sized (subst (λ (o : Option Sub). In n (calls_of o)) (sym at) called) place in
+    let here : Looked subs new i = λ s n j at called place. called_marked subs ns r n j sized (subst (λ (o : Option Sub). In n (called_names o)) (sym at) called) place in
     record {
       sized = spread.sized ∙ sized;
       first = λ j p. kept j (walk.first j p);
@@ -97,7 +97,7 @@ advances subs found t w r i settles walk same e =
       pended = λ j p. advances_pended w r new j (λ q. kept j (walk.pended j (subst (λ (xs : List ℕ). In j xs) (sym e) (in_left j r.pending (i ∷ []) q)))) (spread.pended j p);
       done = λ j m. advances_done subs new j (Marked r j) (Placed subs ns j) (λ m. done_old subs w r new i j spread.pending kept here e (walk.done j (back j m))) (spread.fresh j m);
     } where
-      advances_sound : (subs found : List Sub) (i j : ℕ) (u : Sub) (P Q : Type 0) → (P → In u found) → (Placed subs (calls_of (slice_get subs i)) j → In u found) → P ⊎ (Placed subs (calls_of (slice_get subs i)) j × Q) → In u found
+      advances_sound : (subs found : List Sub) (i j : ℕ) (u : Sub) (P Q : Type 0) → (P → In u found) → (Placed subs (called_names (slice_get subs i)) j → In u found) → P ⊎ (Placed subs (called_names (slice_get subs i)) j × Q) → In u found
       advances_sound subs found i j u P Q f g (inl m) = f m
       advances_sound subs found i j u P Q f g (inr p) = g p.0
 

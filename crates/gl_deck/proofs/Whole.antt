@@ -1,8 +1,9 @@
 -- The deck that is read line by line is the deck of the definition.
 use Rattle.std.proofs.Common.{◌≡◌, ◌<◌, ◌+◌, ℕ, List, [], ◌∷◌, ◌++◌, Bool, Option, Some, None, Result, Ok, Err, refl, sym, ap, ◌∙◌, subst, arith}
 use Rattle.gl_text.specs.LogicalLines.{Fault, Line}
-use Rattle.gl_text.specs.Cards.{or_else, no_card, card_of}
-use Rattle.gl_text.specs.Decks.{Sub, Deck, Scope, Placed, ◌>>=◌, placed_from, title_fault, file_lines, read_deck, scope_behind}
+use Rattle.gl_fault.specs.Refusals.{or_else, ◌>>=◌}
+use Rattle.gl_text.specs.Cards.{no_card, card_of}
+use Rattle.gl_text.specs.Decks.{Sub, Deck, Scope, Placed, placed_from, title_fault, file_lines, read_deck, scope_behind}
 use Rattle.gl_deck.specs.Drafts.{Draft, empty_draft, with_card, draft_after, card_fault, drafted_from, finished, title_in, deck_behind, deck_by_draft}
 use Rattle.gl_deck.proofs.Ascent.{Ascends, file_rises}
 use Rattle.gl_deck.proofs.PlacedLists.{placed}

@@ -1,12 +1,7 @@
 -- How often the subcircuits of a table are called, by their places.
 use Rattle.std.specs.Prelude.{ℕ, ◌-◌, ◌==◌, Bool, false, List, [], Option, Some, None, count_by, sum_by, slice_index_or}
-use Rattle.gl_text.specs.Decks.{Sub, Body, dev_at, call_at}
-use Rattle.gl_deck.specs.Levels.{place_in}
-
--- where the subcircuit that a card calls stands
-abbrev pub place_called : List Sub → Body → Option ℕ
-place_called subs (dev_at line d) = None
-place_called subs (call_at line c) = place_in subs c.sub
+use Rattle.gl_text.specs.Decks.{Sub, Body}
+use Rattle.gl_deck.specs.Places.{place_called}
 
 -- it is this place
 abbrev pub is_place : ℕ → Option ℕ → Bool

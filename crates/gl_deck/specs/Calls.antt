@@ -1,7 +1,7 @@
 -- X cards as far as their calls go, and what refuses them.
 use Rattle.std.specs.Prelude.{ℕ, ◌<◌, ◌^◌, ◌==◌, ◌&&◌, not, List, [], ◌∷◌, length, Option, Some, None, All}
 use Rattle.gl_text.specs.LogicalLines.{Fault, unknown_subckt, wrong_node_count, recursive}
-use Rattle.gl_text.specs.Cards.{first_some, when}
+use Rattle.gl_fault.specs.Refusals.{first_some, when}
 use Rattle.gl_text.specs.Decks.{Scope, Sub, is_inside, find_sub, reaches}
 
 -- an X card: its line, where it stands, the name that it calls, and how many nodes it has

@@ -5,8 +5,9 @@ use Rattle.std.specs.Map.{lookup, values_of}
 use Rattle.indexmap.specs.IndexMap.{insert_entry}
 use Rattle.indexmap.specs.IndexSet.{insert_all}
 use Rattle.gl_text.specs.LogicalLines.{LINE, Fault, Line, long_line, nested_subckt, loose_ends, wrong_ends, open_subckt, local_card, duplicate_name, duplicate_port, zero_port, same_text, title_of}
-use Rattle.gl_text.specs.Cards.{Call, Model, Head, Card, dev, call, model, subckt, ends, global, ended, passed, first_some, when, or_else, no_card, has_parameters, has_long_tail, card_of}
-use Rattle.gl_text.specs.Decks.{Body, dev_at, call_at, Sub, Deck, Scope, top_scope, is_in, is_of_top, has_twice, ports_of, title_fault, file_lines, ◌>>=◌}
+use Rattle.gl_fault.specs.Refusals.{first_some, when, or_else, ◌>>=◌}
+use Rattle.gl_text.specs.Cards.{Call, Model, Head, Card, dev, call, model, subckt, ends, global, ended, passed, no_card, has_parameters, has_long_tail, card_of}
+use Rattle.gl_text.specs.Decks.{Body, dev_at, call_at, Sub, Deck, Scope, top_scope, is_in, is_of_top, has_twice, ports_of, title_fault, file_lines}
 use Rattle.gl_deck.specs.Calls.{Site, site_fault}
 
 pub record Draft : Type 0 where

@@ -3,7 +3,7 @@ pub mod CallCounts
 pub mod Calls
 pub mod Cards
 pub mod Drafts
-pub mod Levels
-pub mod Printing
+pub mod Places
+pub mod Ranks
 pub mod Refusals
 pub mod Walks

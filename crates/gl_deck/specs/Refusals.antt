@@ -1,9 +1,8 @@
 -- What a refusal of the code means, and what reading gives.
-use Rattle.std.specs.Prelude.{◌≡◌, Option, Some, None, option_map, Result, Ok, Err, ⊤}
+use Rattle.std.specs.Prelude.{Option, Some, None, Result}
+use Rattle.gl_fault.specs.Refusals as answers
 use Rattle.gl_text.specs.LogicalLines as lines
 use Rattle.gl_text.specs.LogicalLines.{Fault}
-use Rattle.gl_line.specs.declared.fault.LineFault.{LineFault}
-use Rattle.gl_line.specs.declared.fault.LineFault.TheVariants as line_faults
 use Rattle.gl_deck.specs.declared.fault.DeckFault.{DeckFault}
 use Rattle.gl_deck.specs.declared.fault.DeckFault.TheVariants as faults
 
@@ -30,22 +29,10 @@ fault_of (faults.WrongNodeCount line has needs) = Some (lines.wrong_node_count l
 fault_of (faults.Recursive line) = Some (lines.recursive line)
 fault_of faults.Memory = None
 
--- the same of a line's refusal
-abbrev pub line_fault_of : LineFault → Option Fault
-line_fault_of (line_faults.LoosePlus line) = Some (lines.loose_plus line)
-line_fault_of (line_faults.LongLine line len) = Some (lines.long_line line len)
-line_fault_of line_faults.Memory = None
-
 -- there is a refusal exactly where one is wanted, and it is that one
 abbrev pub Refuses : Option DeckFault → Option Fault → Type 0
-Refuses given wanted = option_map fault_of given ≡ option_map (λ f. Some f) wanted
-
--- the refusal that was given is this one; want of memory may come in place of any answer
-abbrev pub IsRefusal : {V : Type 0} → Option Fault → Result V Fault → Type 0
-IsRefusal None wanted = ⊤
-IsRefusal (Some fault) wanted = wanted ≡ Err fault
+Refuses = answers.Refuses fault_of
 
 -- the value exactly where one is wanted, and it is that one; else the wanted refusal; want of memory may come in place of either
 abbrev pub Gives : {V : Type 0} → Result V DeckFault → Result V Fault → Type 0
-Gives (Ok v) wanted = wanted ≡ Ok v
-Gives (Err fault) wanted = IsRefusal (fault_of fault) wanted
+Gives = answers.Gives fault_of

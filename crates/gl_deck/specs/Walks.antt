@@ -1,7 +1,7 @@
 -- Subcircuits that are marked, and what is marked from them.
 use Rattle.std.specs.Prelude.{ℕ, Bool, true, false, List, [], ◌∷◌, ◌++◌, Option, Some, None, slice_index_or, slice_set, if◌then◌else◌}
 use Rattle.gl_text.specs.Decks.{Sub, callees}
-use Rattle.gl_deck.specs.Levels.{place_in}
+use Rattle.gl_deck.specs.Places.{place_in}
 
 -- for each subcircuit whether it is marked, and the places of those whose calls are still to be looked at
 pub record Walk : Type 0 where
@@ -22,9 +22,9 @@ marked_all subs [] w = w
 marked_all subs (n ∷ ns) w = marked_all subs ns (marked_at (place_in subs n) w)
 
 -- what the subcircuit at a place calls
-abbrev pub calls_of : Option Sub → List (List ℕ)
-calls_of None = []
-calls_of (Some s) = callees s.cards
+abbrev pub called_names : Option Sub → List (List ℕ)
+called_names None = []
+called_names (Some s) = callees s.cards
 
 -- whether the subcircuit of a name is marked
 abbrev pub is_marked_at : Walk → Option ℕ → Bool

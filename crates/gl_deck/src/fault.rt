@@ -1,6 +1,7 @@
 ghost use Rattle.std.specs.Prelude.{◌≡◌};
 ghost use Rattle.gl_card.specs.Reading as card;
-ghost use Rattle.gl_deck.specs.Refusals.{fault_of, line_fault_of};
+ghost use Rattle.gl_line.specs.Answers as line_answers;
+ghost use Rattle.gl_deck.specs.Refusals.{fault_of};
 ghost use Rattle.gl_deck.specs.declared.fault.DeckFault.TheVariants.{Memory as NoMemory};
 
 use gl_card::{CardFault, Memory};
@@ -190,7 +191,7 @@ impl From<CardFault> for DeckFault {
 }
 
 impl From<LineFault> for DeckFault {
-    ghost from_gives = { λ l e. fault_of e ≡ line_fault_of l };
+    ghost from_gives = { λ l e. fault_of e ≡ line_answers.fault_of l };
 
     fn from(fault: LineFault) -> Self {
         match fault {

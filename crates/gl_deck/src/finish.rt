@@ -1,5 +1,5 @@
 ghost use Rattle.std.specs.Prelude.{◌≡◌, [], ◌∷◌, IfOk};
-ghost use Rattle.gl_text.specs.Cards.{first_some};
+ghost use Rattle.gl_fault.specs.Refusals.{first_some};
 ghost use Rattle.gl_deck.specs.Drafts.{calls_in, deck_of, finished, open_in};
 ghost use Rattle.gl_deck.specs.Refusals.{Gives, Refuses};
 

@@ -2,7 +2,7 @@
 ghost use Rattle.std.specs.Prelude.{◌≡◌, ◌+◌, ℕ, List, Bool, length};
 ghost use Rattle.gl_text.specs.Decks.{Sub, read_deck};
 ghost use Rattle.gl_deck.specs.Drafts.{deck_by_draft};
-ghost use Rattle.gl_deck.specs.Levels.{AllThere, HasRank, NoneBack};
+ghost use Rattle.gl_deck.specs.Ranks.{AllThere, HasRank, NoneBack};
 
 /// The deck that is read line by line is the deck of the definition, with the same refusals.
 pub fn lines_make_the_deck()

@@ -1,9 +1,8 @@
 ghost use Rattle.std.specs.Prelude.{◌≡◌, ◌∷◌, [], ◌++◌, OnOk, is_ok, length, take, map, flat_map, if◌then◌else◌};
 ghost use Rattle.gl_text.specs.Cards as cards;
 ghost use Rattle.gl_text.specs.Decks as decks;
-ghost use Rattle.gl_text.specs.Decks.{deck_text};
+ghost use Rattle.gl_text.specs.Decks.{deck_text, global_line, model_line, head_line, ends_line, passed_line};
 ghost use Rattle.gl_deck.specs.Bodies.{body_value, bodies_value};
-ghost use Rattle.gl_deck.specs.Printing.{global_line, model_line, head_line, ends_line, passed_line};
 
 use crate::{Body, Deck, Head, Memory, ModelCard, Name, Sub};
 
@@ -26,8 +25,8 @@ fn put_global(out: &mut Vec<u8>, name: &Name) -> Result<(), Memory>
     put(out, b"\n")
 }
 
-/// Appends a card for each global net.
-fn put_globals(out: &mut Vec<u8>, names: &[Name]) -> Result<(), Memory>
+/// Appends a `.global` card for each of these names.
+pub fn put_globals(out: &mut Vec<u8>, names: &[Name]) -> Result<(), Memory>
     ensures ok { OnOk result (out.new.items ≡ out.old.items ++ flat_map global_line names.now) }
     ensures front { take (length out.old.items) out.new.items ≡ out.old.items }
 {
@@ -47,7 +46,7 @@ fn put_model(out: &mut Vec<u8>, model: &ModelCard) -> Result<(), Memory>
 }
 
 /// Appends the models.
-fn put_models(out: &mut Vec<u8>, models: &[ModelCard]) -> Result<(), Memory>
+pub fn put_models(out: &mut Vec<u8>, models: &[ModelCard]) -> Result<(), Memory>
     ensures ok { OnOk result (out.new.items ≡ out.old.items ++ flat_map model_line models.now) }
     ensures front { take (length out.old.items) out.new.items ≡ out.old.items }
 {
@@ -80,8 +79,8 @@ fn put_bodies(out: &mut Vec<u8>, cards: &[Body]) -> Result<(), Memory>
     Ok(())
 }
 
-/// Appends the card that opens a subcircuit.
-fn put_head(out: &mut Vec<u8>, head: &Head) -> Result<(), Memory>
+/// Appends the `.subckt` card that opens a subcircuit.
+pub fn put_head(out: &mut Vec<u8>, head: &Head) -> Result<(), Memory>
     ensures ok { OnOk result (out.new.items ≡ out.old.items ++ head_line head.now) }
     ensures front { take (length out.old.items) out.new.items ≡ out.old.items }
 {
@@ -89,8 +88,8 @@ fn put_head(out: &mut Vec<u8>, head: &Head) -> Result<(), Memory>
     put(out, b"\n")
 }
 
-/// Appends the card that closes a subcircuit, with its name.
-fn put_ends(out: &mut Vec<u8>, name: &Name) -> Result<(), Memory>
+/// Appends the `.ends` card that closes the subcircuit of this name.
+pub fn put_ends(out: &mut Vec<u8>, name: &Name) -> Result<(), Memory>
     ensures ok { OnOk result (out.new.items ≡ out.old.items ++ ends_line name.now) }
     ensures front { take (length out.old.items) out.new.items ≡ out.old.items }
 {
@@ -120,8 +119,8 @@ fn put_subs(out: &mut Vec<u8>, subs: &[Sub]) -> Result<(), Memory>
     Ok(())
 }
 
-/// Appends a title, or a card that is carried along.
-fn put_text(out: &mut Vec<u8>, text: &[u8]) -> Result<(), Memory>
+/// Appends a title, `.end` or a card that is carried along, and a newline.
+pub fn put_text(out: &mut Vec<u8>, text: &[u8]) -> Result<(), Memory>
     ensures ok { OnOk result (out.new.items ≡ out.old.items ++ passed_line text.now) }
     ensures front { take (length out.old.items) out.new.items ≡ out.old.items }
 {
@@ -130,7 +129,7 @@ fn put_text(out: &mut Vec<u8>, text: &[u8]) -> Result<(), Memory>
 }
 
 /// Appends the cards that are carried along.
-fn put_all_passed(out: &mut Vec<u8>, texts: &[Vec<u8>]) -> Result<(), Memory>
+pub fn put_all_passed(out: &mut Vec<u8>, texts: &[Vec<u8>]) -> Result<(), Memory>
     ensures ok { OnOk result (out.new.items ≡ out.old.items ++ flat_map passed_line (map (λ t. t.items) texts.now)) }
     ensures front { take (length out.old.items) out.new.items ≡ out.old.items }
 {

@@ -5,9 +5,9 @@ ghost use Rattle.indexmap.specs.IndexMap.{keys, values};
 ghost use Rattle.gl_text.specs.Decks as decks;
 ghost use Rattle.gl_text.specs.Decks.{callees};
 ghost use Rattle.gl_deck.specs.Bodies.{bodies_value, names_of};
-ghost use Rattle.gl_deck.specs.Walks.{calls_of, is_marked, marked as marked_by, marked_all};
+ghost use Rattle.gl_deck.specs.Walks.{called_names, is_marked, marked as marked_by, marked_all};
 
-use crate::levels::place_of;
+use crate::places::place_of;
 use crate::{Body, Name, Sub};
 use indexmap::IndexMap;
 use std::alloc::{AllocError, Global};
@@ -118,7 +118,7 @@ impl Walk {
     fn look_at(&mut self, subs: &IndexMap<Name, Sub>, place: usize) -> Result<(), AllocError>
         requires keyed { keys subs.now ≡ names_of (values subs.now) }
         requires sized { length self.old.marks ≡ length (values subs.now) }
-        ensures marked { OnOk result (self.new ≡ marked_all (values subs.now) (calls_of (slice_get (values subs.now) place)) self.old) }
+        ensures marked { OnOk result (self.new ≡ marked_all (values subs.now) (called_names (slice_get (values subs.now) place)) self.old) }
     {
         match subs.values().as_slice().get(place) {
             Some(sub) => self.mark_callees(subs, sub.cards()),

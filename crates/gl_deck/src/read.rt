@@ -1,11 +1,13 @@
-ghost use Rattle.std.specs.Prelude.{◌≡◌, ◌<◌, ◌≤◌, ◌^◌, length, true, false};
+ghost use Rattle.std.specs.Prelude.{◌≡◌, ◌<◌, ◌≤◌, ◌^◌, length, true, false, IfOk};
 ghost use Rattle.gl_text.specs.LogicalLines.{FILE, logical_lines};
 ghost use Rattle.gl_text.specs.Decks.{read_deck};
+ghost use Rattle.gl_known.specs.Known.{IsKnownDeck};
 ghost use Rattle.gl_deck.specs.Drafts.{deck_behind, deck_by_draft, long_title};
 ghost use Rattle.gl_deck.specs.Refusals.{Gives, Refuses};
 
 use crate::lines::drafted;
 use crate::{Deck, DeckFault};
+use gl_known::read_decks_are_known;
 use gl_line::split_title;
 use std::alloc::Global;
 
@@ -61,7 +63,9 @@ impl Deck {
     pub fn read(alloc: Global, bytes: &[u8], has_title: bool) -> Result<Deck, DeckFault>
         requires size { length bytes.now ≤ FILE }
         ensures read { Gives result (read_deck has_title bytes.now) }
+        ensures known { IfOk result (IsKnownDeck FILE) }
     {
+        read_decks_are_known();
         if has_title {
             read_titled(alloc, bytes)
         } else {

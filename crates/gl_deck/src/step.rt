@@ -1,7 +1,8 @@
 ghost use Rattle.std.specs.Prelude.{◌≡◌, ◌≤◌, Ok, length, IfErr, OnOk};
 ghost use Rattle.gl_text.specs.LogicalLines.{LINE};
 ghost use Rattle.gl_deck.specs.Drafts.{draft_step};
-ghost use Rattle.gl_deck.specs.Refusals.{IsRefusal, fault_of};
+ghost use Rattle.gl_fault.specs.Refusals.{IsRefusal};
+ghost use Rattle.gl_deck.specs.Refusals.{fault_of};
 
 use crate::draft::Draft;
 use crate::{Card, DeckFault};

@@ -331,19 +331,15 @@ const ROWS: [Row; 12] = [
 fn name(alloc: Global, text: &str) -> Result<Name, AllocError>
     ensures name { IfOk result (λ name. name ≡ text.now) }
 {
-    Name::of(alloc, text.as_bytes())
+    Ok(Name::of(alloc, text.as_bytes())?)
 }
 
 /// An X card.
 fn call(alloc: Global, sub: &str) -> Result<Body, AllocError> {
-    Ok(Body::Call(
-        1,
-        CallCard {
-            name: name(alloc, "x")?,
-            nodes: Vec::new(alloc),
-            sub: name(alloc, sub)?,
-        },
-    ))
+    let mut names = Vec::new(alloc);
+    names.push(name(alloc, "x")?)?;
+    names.push(name(alloc, sub)?)?;
+    Ok(Body::Call(1, CallCard::of(names).ok_or(AllocError)?))
 }
 
 /// X cards.

@@ -2,7 +2,7 @@ ghost use Rattle.std.specs.Prelude.{◌≡◌, IfOk, OnOk};
 ghost use Rattle.indexmap.specs.IndexMap.{keys, values};
 ghost use Rattle.gl_deck.specs.Bodies.{names_of};
 
-use crate::{Body, CallCard, Deck, DevCard, Head, Letter, ModelCard, Name, Sub, Tail};
+use crate::{Body, CallCard, Deck, DevCard, Head, ModelCard, Name, Sub, Tail};
 use indexmap::IndexMap;
 use std::alloc::{AllocError, Global};
 use std::test::Fail;
@@ -38,55 +38,49 @@ fn names(alloc: Global, letters: &str) -> Result<Vec<Name>, AllocError> {
 fn name(alloc: Global, text: &str) -> Result<Name, AllocError>
     ensures name { IfOk result (λ name. name ≡ text.now) }
 {
-    Name::of(alloc, text.as_bytes())
+    Ok(Name::of(alloc, text.as_bytes())?)
 }
 
 fn tail(alloc: Global, text: &str) -> Result<Tail, AllocError> {
-    Ok(Tail {
-        bytes: Vec::from_slice(alloc, text.as_bytes())?,
-    })
+    Ok(Tail::of(alloc, text.as_bytes())?)
+}
+
+/// The names of a card: its own, those of its nodes, each of one byte, and the last, unless that is empty.
+fn card_names(alloc: Global, own: &str, nodes: &str, last: &str) -> Result<Vec<Name>, AllocError> {
+    let mut all = Vec::new(alloc);
+    all.push(name(alloc, own)?)?;
+    for node in nodes.as_bytes() {
+        all.push(Name::of(alloc, &[*node])?)?;
+    }
+    if !last.is_empty() {
+        all.push(name(alloc, last)?)?;
+    }
+    Ok(all)
+}
+
+/// A device with these names and this tail.
+fn device(alloc: Global, names: Vec<Name>, text: &str) -> Result<DevCard, AllocError> {
+    DevCard::of(names, tail(alloc, text)?).ok_or(AllocError)
 }
 
 fn transistor(alloc: Global) -> Result<Body, AllocError> {
-    let card = DevCard {
-        letter: Letter::M,
-        name: Name::of(alloc, b"m1")?,
-        nodes: names(alloc, "ab00")?,
-        model: Some(name(alloc, "nch")?),
-        tail: tail(alloc, "w=1u")?,
-    };
-    Ok(Body::Dev(8, card))
+    let names = card_names(alloc, "m1", "ab00", "nch")?;
+    Ok(Body::Dev(8, device(alloc, names, "w=1u")?))
 }
 
 fn resistor(alloc: Global) -> Result<Body, AllocError> {
-    let card = DevCard {
-        letter: Letter::R,
-        name: Name::of(alloc, b"r1")?,
-        nodes: names(alloc, "ab")?,
-        model: None,
-        tail: tail(alloc, "1k")?,
-    };
-    Ok(Body::Dev(10, card))
+    let names = card_names(alloc, "r1", "ab", "")?;
+    Ok(Body::Dev(10, device(alloc, names, "1k")?))
 }
 
 fn diode(alloc: Global) -> Result<Body, AllocError> {
-    let card = DevCard {
-        letter: Letter::D,
-        name: Name::of(alloc, b"d1")?,
-        nodes: names(alloc, "pq")?,
-        model: Some(name(alloc, "dmod")?),
-        tail: tail(alloc, "")?,
-    };
-    Ok(Body::Dev(15, card))
+    let names = card_names(alloc, "d1", "pq", "dmod")?;
+    Ok(Body::Dev(15, device(alloc, names, "")?))
 }
 
 fn call(alloc: Global, nodes: &str, sub: &str) -> Result<Body, AllocError> {
-    let card = CallCard {
-        name: name(alloc, "x1")?,
-        nodes: names(alloc, nodes)?,
-        sub: name(alloc, sub)?,
-    };
-    Ok(Body::Call(9, card))
+    let names = card_names(alloc, "x1", nodes, sub)?;
+    Ok(Body::Call(9, CallCard::of(names).ok_or(AllocError)?))
 }
 
 fn model(alloc: Global, own: &str, word: &str, text: &str) -> Result<ModelCard, AllocError> {

@@ -12,11 +12,11 @@ use Rattle.gl_text.specs.Decks.{Body, dev_at, call_at, Sub, callees, is_in}
 use Rattle.gl_text.specs.Flattening.{at_depth, is_none_left}
 use Rattle.gl_deck.specs.declared.body.Body as cards
 use Rattle.gl_deck.specs.Bodies.{bodies_value, body_value, names_of}
-use Rattle.gl_deck.specs.Levels.{place_in}
+use Rattle.gl_deck.specs.Places.{place_in, places_of}
 use Rattle.gl_deck.proofs.Members.{In, in_any, from_any, at_in, in_at, in_filter, from_filter, is_in_from, from_is_in}
 use Rattle.gl_deck.proofs.PlaceLaws.{own_place, at_its_place}
 use Rattle.gl_size.specs.Chains.{has_chain, chains_of}
-use Rattle.gl_size.specs.Tallies.{Tally, places_of, tally_of, tallies_of}
+use Rattle.gl_size.specs.Tallies.{Tally, tally_of, tallies_of}
 
 -- ---- marks at places
 

@@ -10,12 +10,12 @@ use Rattle.gl_text.specs.LogicalLines.{same_text}
 use Rattle.gl_text.specs.Decks.{Body, dev_at, call_at, Sub, callees}
 use Rattle.gl_text.specs.Flattening.{size_of, sizes}
 use Rattle.gl_deck.specs.Bodies.{names_of}
-use Rattle.gl_deck.specs.Levels.{place_in}
+use Rattle.gl_deck.specs.Places.{place_in, places_of}
 use Rattle.gl_deck.proofs.CallLaws.{flipped}
 use Rattle.gl_size.specs.declared.counted.Counted.{Counted}
 use Rattle.gl_size.specs.declared.counted.Counted.TheVariants as counted
 use Rattle.gl_size.specs.Counts.{own_of, most_of, counts_of}
-use Rattle.gl_size.specs.Tallies.{places_of, own_count, tally_of, tallies_of, own_in, count_through}
+use Rattle.gl_size.specs.Tallies.{own_count, tally_of, tallies_of, own_in, count_through}
 
 -- ---- cut sums
 

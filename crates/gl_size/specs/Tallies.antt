@@ -1,8 +1,8 @@
 -- What is kept of a subcircuit to count what it expands to.
-use Rattle.std.specs.Prelude.{ℕ, ◌+◌, Bool, false, List, flat_map, map, min, option_to_list, slice_index, slice_index_or, sum_by}
+use Rattle.std.specs.Prelude.{ℕ, ◌+◌, Bool, false, List, map, min, slice_index, slice_index_or, sum_by}
 use Rattle.std.specs.List.{list_any}
-use Rattle.gl_text.specs.Decks.{Body, Sub, callees}
-use Rattle.gl_deck.specs.Levels.{place_in}
+use Rattle.gl_text.specs.Decks.{Body, Sub}
+use Rattle.gl_deck.specs.Places.{calls_of}
 use Rattle.gl_size.specs.declared.counted.Counted.{Counted}
 use Rattle.gl_size.specs.declared.counted.Counted.TheVariants as counted
 use Rattle.gl_size.specs.Counts.{own_of, most_of}
@@ -12,14 +12,6 @@ pub record Tally : Type 0 where
   pub cards : ℕ
   pub devices : ℕ
   pub calls : List ℕ
-
--- where the subcircuits of these names stand, as often as they are named
-abbrev pub places_of : List Sub → List (List ℕ) → List ℕ
-places_of subs names = flat_map (λ n. option_to_list (place_in subs n)) names
-
--- where the subcircuits stand that cards call, as often as they are called
-abbrev pub calls_of : List Sub → List Body → List ℕ
-calls_of subs cards = places_of subs (callees cards)
 
 -- what cards count for themselves, or one more than there may be where that's less
 abbrev pub own_count : Counted → List Body → ℕ

@@ -4,15 +4,17 @@ ghost use Rattle.gl_text.specs.Flattening.{at_depth, count, is_none_left, one, o
 ghost use Rattle.gl_deck.specs.Bodies.{bodies_value, names_of};
 ghost use Rattle.gl_size.specs.Counts.{counts_of, most_of, own_of};
 ghost use Rattle.gl_size.specs.Excesses.{AreSizes};
-ghost use Rattle.gl_size.specs.Tallies.{calls_of, has_mark, sum_at};
+ghost use Rattle.gl_deck.specs.Places.{calls_of};
+ghost use Rattle.gl_size.specs.Tallies.{has_mark, sum_at};
 
 use crate::chains::{deep, is_marked};
 use crate::counted::{Counted, add};
 use crate::rounds::counts;
-use crate::tally::{called_place, tallies};
-use crate::{Body, Name, Sub};
+use crate::tally::tallies;
+use crate::{Body, Memory, Name, Sub};
+use gl_deck::called_place;
 use indexmap::IndexMap;
-use std::alloc::{AllocError, Global};
+use std::alloc::Global;
 use std::marker::Model;
 
 /// What the subcircuits of a deck expand to, and how deep, each at its place in the table.
@@ -36,7 +38,7 @@ impl Model for Sizes {
 
 impl Sizes {
     /// The sizes of these subcircuits. It takes some 32 times as many steps as there are X cards, and names are looked up once.
-    pub fn of(alloc: Global, subs: &IndexMap<Name, Sub>) -> Result<Sizes, AllocError>
+    pub fn of(alloc: Global, subs: &IndexMap<Name, Sub>) -> Result<Sizes, Memory>
         requires keyed { keys subs.now ≡ names_of (values subs.now) }
         ensures of { IfOk result (AreSizes (values subs.now)) }
     {

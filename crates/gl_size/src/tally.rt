@@ -1,13 +1,13 @@
-ghost use Rattle.std.specs.Prelude.{◌≡◌, [], ◌∷◌, IfOk, option_to_list};
+ghost use Rattle.std.specs.Prelude.{◌≡◌, IfOk};
 ghost use Rattle.indexmap.specs.IndexMap.{keys, values};
 ghost use Rattle.std.specs.List.{IsDistinct};
 ghost use Rattle.gl_text.specs.LogicalLines.{same_text};
 ghost use Rattle.gl_deck.specs.Bodies.{bodies_value, names_of};
-ghost use Rattle.gl_deck.specs.Levels.{place_in};
-ghost use Rattle.gl_size.specs.Tallies.{calls_of, own_in, tallies_of, tally_of};
+ghost use Rattle.gl_size.specs.Tallies.{own_in, tallies_of, tally_of};
 
 use crate::counted::Counted;
 use crate::{Body, Name, Sub};
+use gl_deck::called_places;
 use indexmap::IndexMap;
 use std::alloc::{AllocError, Global};
 use std::marker::Model;
@@ -60,45 +60,6 @@ impl Tally {
     {
         &self.calls
     }
-}
-
-/// Where the subcircuit of this name stands in the table.
-fn place_of(subs: &IndexMap<Name, Sub>, name: &Name) -> Option<usize>
-    requires keyed { keys subs.now ≡ names_of (values subs.now) }
-    ensures place { result ≡ place_in (values subs.now) name.now }
-{
-    subs.get_index_of(name)
-}
-
-/// Where the subcircuit that a card calls stands in the table.
-pub fn called_place(subs: &IndexMap<Name, Sub>, card: &Body) -> Option<usize>
-    requires keyed { keys subs.now ≡ names_of (values subs.now) }
-    ensures place { option_to_list result ≡ calls_of (values subs.now) (bodies_value (card.now ∷ [])) }
-{
-    match card {
-        Body::Dev(_, _) => None,
-        Body::Call(_, call) => place_of(subs, call.sub()),
-    }
-}
-
-/// The places of the subcircuits that cards call.
-fn called_places(
-    alloc: Global,
-    subs: &IndexMap<Name, Sub>,
-    cards: &[Body],
-) -> Result<Vec<usize>, AllocError>
-    requires keyed { keys subs.now ≡ names_of (values subs.now) }
-    ensures places { IfOk result (λ v. v.items ≡ calls_of (values subs.now) (bodies_value cards.now)) }
-{
-    let mut places = Vec::new(alloc);
-    let mut rest = cards;
-    while let [card, behind @ ..] = rest {
-        if let Some(place) = called_place(subs, card) {
-            places.push(place)?;
-        }
-        rest = behind;
-    }
-    Ok(places)
 }
 
 /// What is kept of each subcircuit.

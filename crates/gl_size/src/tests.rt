@@ -3,7 +3,7 @@ ghost use Rattle.indexmap.specs.IndexMap.{keys, values};
 ghost use Rattle.gl_deck.specs.Bodies.{names_of};
 
 use crate::{Body, Excess, Name, Sizes, Sub, first_excess};
-use gl_deck::{CallCard, DevCard, Head, Letter, Tail};
+use gl_deck::{CallCard, DevCard, Head, Tail};
 use indexmap::IndexMap;
 use std::alloc::{AllocError, Global};
 use std::process::Abort;
@@ -257,37 +257,23 @@ const CHAINS: [Chain; 11] = [
 fn name(alloc: Global, text: &str) -> Result<Name, AllocError>
     ensures name { IfOk result (λ name. name ≡ text.now) }
 {
-    Name::of(alloc, text.as_bytes())
+    Ok(Name::of(alloc, text.as_bytes())?)
 }
 
 /// A resistor.
 fn resistor(alloc: Global) -> Result<Body, AllocError> {
-    Ok(Body::Dev(
-        1,
-        DevCard {
-            letter: Letter::R,
-            name: Name {
-                bytes: Vec::from_slice(alloc, b"r")?,
-            },
-            nodes: Vec::new(alloc),
-            model: None,
-            tail: Tail {
-                bytes: Vec::new(alloc),
-            },
-        },
-    ))
+    let mut names = Vec::new(alloc);
+    names.push(name(alloc, "r")?)?;
+    let card = DevCard::of(names, Tail::of(alloc, b"")?);
+    Ok(Body::Dev(1, card.ok_or(AllocError)?))
 }
 
 /// An X card.
 fn call(alloc: Global, sub: &str) -> Result<Body, AllocError> {
-    Ok(Body::Call(
-        1,
-        CallCard {
-            name: name(alloc, "x")?,
-            nodes: Vec::new(alloc),
-            sub: name(alloc, sub)?,
-        },
-    ))
+    let mut names = Vec::new(alloc);
+    names.push(name(alloc, "x")?)?;
+    names.push(name(alloc, sub)?)?;
+    Ok(Body::Call(1, CallCard::of(names).ok_or(AllocError)?))
 }
 
 /// So many devices.

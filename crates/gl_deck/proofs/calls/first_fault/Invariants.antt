@@ -1,6 +1,6 @@
 use Rattle.std.proofs.Common.{◌≡◌, map, length}
 use Rattle.indexmap.specs.IndexMap.{values}
-use Rattle.gl_text.specs.Cards.{first_some}
+use Rattle.gl_fault.specs.Refusals.{first_some}
 use Rattle.gl_deck.specs.Calls.{site_fault}
 use Rattle.gl_deck.proofs.calls.first_fault.Given as goal
 

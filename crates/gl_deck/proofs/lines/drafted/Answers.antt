@@ -1,6 +1,6 @@
 use Rattle.std.proofs.Common.{◌≡◌, Result, subst, sym, ap, ◌∙◌}
 use Rattle.gl_text.specs.LogicalLines.{Line, logical_lines}
-use Rattle.gl_line.specs.Gives as line
+use Rattle.gl_line.specs.Answers as line
 use Rattle.gl_line.specs.Lines.{lines_left}
 use Rattle.gl_line.specs.declared.fault.LineFault.{LineFault}
 use Rattle.gl_deck.specs.Drafts.{drafted_from, empty_draft}
@@ -19,7 +19,7 @@ loop-line-init c =
 
 pub returns-in_err-line : goal.returns-in_err-line
 returns-in_err-line c =
-    let P : Result Line LineFault → Type 0 = λ r. line.Gives r (lines_left c.loop-line.line-iterator) (lines_left c.next.new.self) in
+    let P : Result Line LineFault → Type 0 = λ r. line.GivesFirst r (lines_left c.loop-line.line-iterator) (lines_left c.next.new.self) in
     let f = c.in_err-line.field-0.0 in
     record {
       drafted = line_refused c.from_residual.result f c.loop-line.draft (lines_left c.loop-line.line-iterator) (lines_left c.next.new.self) (drafted_from empty_draft (logical_lines c.args.first_line c.args.bytes.now))
@@ -28,7 +28,7 @@ returns-in_err-line c =
 
 pub returns-in_err-take : goal.returns-in_err-take
 returns-in_err-take c =
-    let P : Result Line LineFault → Type 0 = λ r. line.Gives r (lines_left c.loop-line.line-iterator) (lines_left c.next.new.self) in
+    let P : Result Line LineFault → Type 0 = λ r. line.GivesFirst r (lines_left c.loop-line.line-iterator) (lines_left c.next.new.self) in
     record {
       drafted = line_stopped c.from_residual-in_err-take.result c.in_err-take.field-0.0 c.loop-line.draft c.in_ok-line.field-0 (lines_left c.loop-line.line-iterator) (lines_left c.next.new.self)
           (drafted_from empty_draft (logical_lines c.args.first_line c.args.bytes.now)) (subst P c.in_ok-line.was c.in-Some.ensures.steps) c.from_residual-in_err-take.ensures.1 c.in_err-take.ensures.refused c.loop-line.invariant.same;

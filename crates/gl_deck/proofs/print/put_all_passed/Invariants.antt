@@ -1,6 +1,6 @@
 use Rattle.std.proofs.Common.{◌≡◌, ◌++◌, take, map}
 use Rattle.std.specs.Prelude.{flat_map}
-use Rattle.gl_deck.specs.Printing.{passed_line}
+use Rattle.gl_text.specs.Decks.{passed_line}
 use Rattle.gl_deck.proofs.print.put_all_passed.Given as goal
 
 abbrev pub invariant-loop-text : goal.invariant-loop-text

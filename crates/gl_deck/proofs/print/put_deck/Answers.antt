@@ -1,8 +1,7 @@
 use Rattle.std.proofs.Common.{◌∙◌, ◌++◌, refl, ap}
 use Rattle.std.specs.Prelude.{flat_map}
 use Rattle.gl_text.specs.Cards.{ended}
-use Rattle.gl_text.specs.Decks.{sub_text, body_line, line_of}
-use Rattle.gl_deck.specs.Printing.{global_line, model_line, passed_line}
+use Rattle.gl_text.specs.Decks.{sub_text, body_line, line_of, global_line, model_line, passed_line}
 use Rattle.gl_deck.proofs.PrintingLaws.{sections, one_more}
 use Rattle.gl_deck.proofs.print.put_deck.Goals as goal
 

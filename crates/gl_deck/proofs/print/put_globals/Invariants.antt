@@ -1,6 +1,6 @@
 use Rattle.std.proofs.Common.{◌≡◌, ◌++◌, take}
 use Rattle.std.specs.Prelude.{flat_map}
-use Rattle.gl_deck.specs.Printing.{global_line}
+use Rattle.gl_text.specs.Decks.{global_line}
 use Rattle.gl_deck.proofs.print.put_globals.Given as goal
 
 abbrev pub invariant-loop-name : goal.invariant-loop-name

@@ -7,7 +7,7 @@ use Rattle.gl_text.specs.LogicalLines.{same_text}
 use Rattle.gl_text.specs.Cards.{Head}
 use Rattle.gl_text.specs.Decks.{steps}
 use Rattle.gl_deck.specs.Bodies.{names_of}
-use Rattle.gl_deck.specs.Walks.{Walk, marked_all, calls_of}
+use Rattle.gl_deck.specs.Walks.{Walk, marked_all, called_names}
 use Rattle.gl_deck.proofs.Members.{among_in}
 use Rattle.gl_deck.proofs.ReachLaws.{settled, keeps}
 use Rattle.gl_deck.proofs.MarkLaws.{left}
@@ -33,7 +33,7 @@ loop-place-smaller c =
     let subs = values c.args.subs.now in
     let w = c.loop-place.walk in
     let r = c.next.new.self in
-    let less = less_left subs (calls_of (slice_get subs c.in-Some.place)) w r c.in-Some.place (ap length c.next.ensures.marks ∙ c.loop-place.invariant.sized) c.next.ensures.marks c.in-Some.ensures.pending in
+    let less = less_left subs (called_names (slice_get subs c.in-Some.place)) w r c.in-Some.place (ap length c.next.ensures.marks ∙ c.loop-place.invariant.sized) c.next.ensures.marks c.in-Some.ensures.pending in
     subst (λ (v : Walk). left v < left w) (sym c.in_ok-look_at.ensures.marked) less
 
 pub loop-place-preserved : goal.loop-place-preserved

@@ -4,7 +4,7 @@ use Rattle.std.specs.List.{list_any}
 use Rattle.indexmap.specs.IndexMap.{values}
 use Rattle.gl_text.specs.Decks.{callees}
 use Rattle.gl_deck.specs.Bodies.{bodies_value}
-use Rattle.gl_size.specs.Tallies.{places_of}
+use Rattle.gl_deck.specs.Places.{places_of}
 use Rattle.gl_size.proofs.sizes.call_marked.Given as goal
 
 abbrev pub invariant-loop-rest : goal.invariant-loop-rest

@@ -3,7 +3,7 @@ use Rattle.std.specs.Prelude.{slice_index, sum_by}
 use Rattle.indexmap.specs.IndexMap.{values}
 use Rattle.gl_text.specs.Decks.{callees}
 use Rattle.gl_deck.specs.Bodies.{bodies_value}
-use Rattle.gl_size.specs.Tallies.{places_of}
+use Rattle.gl_deck.specs.Places.{places_of}
 use Rattle.gl_size.proofs.sizes.called_total.Given as goal
 
 abbrev pub invariant-loop-rest : goal.invariant-loop-rest

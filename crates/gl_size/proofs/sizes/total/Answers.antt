@@ -4,7 +4,8 @@ use Rattle.indexmap.specs.IndexMap.{values}
 use Rattle.gl_text.specs.Decks.{callees}
 use Rattle.gl_text.specs.Flattening.{DEPTH}
 use Rattle.gl_deck.specs.Bodies.{bodies_value}
-use Rattle.gl_size.specs.Tallies.{own_count, places_of}
+use Rattle.gl_deck.specs.Places.{places_of}
+use Rattle.gl_size.specs.Tallies.{own_count}
 use Rattle.gl_size.specs.Counts.{counts_of}
 use Rattle.gl_size.proofs.CountLaws.{counted_at}
 use Rattle.gl_size.proofs.sizes.total.Goals as goal

@@ -1,7 +1,7 @@
 use Rattle.std.proofs.Common.{List, subst}
 use Rattle.std.specs.Prelude.{map, IfOk}
 use Rattle.indexmap.specs.IndexMap.{values}
-use Rattle.gl_text.specs.Cards.{first_some}
+use Rattle.gl_fault.specs.Refusals.{first_some}
 use Rattle.gl_deck.specs.Calls.{Site, site_fault}
 use Rattle.gl_deck.specs.Drafts.{Draft, calls_in}
 use Rattle.gl_deck.specs.Refusals.{Refuses}

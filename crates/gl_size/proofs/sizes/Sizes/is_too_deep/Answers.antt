@@ -5,7 +5,7 @@ use Rattle.gl_text.specs.Decks.{callees}
 use Rattle.gl_text.specs.Flattening.{DEPTH}
 use Rattle.gl_deck.specs.Bodies.{bodies_value}
 use Rattle.gl_size.specs.Excesses.{Sizes}
-use Rattle.gl_size.specs.Tallies.{places_of}
+use Rattle.gl_deck.specs.Places.{places_of}
 use Rattle.gl_size.proofs.ChainLaws.{at, chain_at}
 use Rattle.gl_size.proofs.sizes.Sizes.is_too_deep.Goals as goal
 

@@ -2,8 +2,8 @@ use Rattle.std.proofs.Common.{◌≡◌, ◌++◌, length}
 use Rattle.indexmap.specs.IndexMap.{values}
 use Rattle.gl_text.specs.Decks.{callees}
 use Rattle.gl_deck.specs.Bodies.{bodies_value}
-use Rattle.gl_size.specs.Tallies.{places_of}
-use Rattle.gl_size.proofs.tally.called_places.Given as goal
+use Rattle.gl_deck.specs.Places.{places_of}
+use Rattle.gl_deck.proofs.places.called_places.Given as goal
 
 abbrev pub invariant-loop-rest : goal.invariant-loop-rest
 invariant-loop-rest l = l.places.items ++ places_of (values l.subs) (callees (bodies_value l.rest)) ≡ places_of (values l.subs) (callees (bodies_value l.cards))

@@ -2,40 +2,23 @@ ghost use Rattle.std.specs.Prelude.{◌≡◌, ◌+◌, ◌*◌, ◌<◌, ◌≤
 ghost use Rattle.indexmap.specs.IndexMap.{keys, values};
 ghost use Rattle.gl_text.specs.Levels.{Down};
 ghost use Rattle.gl_deck.specs.Bodies.{bodies_value, body_value, names_of};
-ghost use Rattle.gl_deck.specs.CallCounts.{calls_from, calls_on, cards_at, place_called, times, uncalled_at};
-ghost use Rattle.gl_deck.specs.Levels.{AreLevels, NoneBack, level_in, place_in};
+ghost use Rattle.gl_deck.specs.CallCounts.{calls_from, calls_on, cards_at, times, uncalled_at};
+ghost use Rattle.gl_deck.specs.Places.{place_called};
+ghost use Rattle.gl_deck.specs.Ranks.{AreRanks, NoneBack, rank_in};
 
+use crate::places::{called_place, place_of};
 use crate::{Body, Name, Sub};
 use indexmap::IndexMap;
 use std::alloc::{AllocError, Global};
 
-/// Where the subcircuit of this name stands in the table.
-pub fn place_of(subs: &IndexMap<Name, Sub>, name: &Name) -> Option<usize>
+/// The rank of the subcircuit of this name; 0 where there is none.
+pub fn rank_of(subs: &IndexMap<Name, Sub>, ranks: &[usize], name: &Name) -> usize
     requires keyed { keys subs.now ≡ names_of (values subs.now) }
-    ensures place { result ≡ place_in (values subs.now) name.now }
-{
-    subs.get_index_of(name)
-}
-
-/// The number of the subcircuit of this name; 0 where there is none.
-pub fn level_of(subs: &IndexMap<Name, Sub>, levels: &[usize], name: &Name) -> usize
-    requires keyed { keys subs.now ≡ names_of (values subs.now) }
-    ensures level { result ≡ level_in (values subs.now) levels.now name.now }
+    ensures rank { result ≡ rank_in (values subs.now) ranks.now name.now }
 {
     match place_of(subs, name) {
-        Some(place) => levels.get(place).copied().unwrap_or(0),
+        Some(place) => ranks.get(place).copied().unwrap_or(0),
         None => 0,
-    }
-}
-
-/// Where the subcircuit that a card calls stands in the table.
-fn callee(subs: &IndexMap<Name, Sub>, card: &Body) -> Option<usize>
-    requires keyed { keys subs.now ≡ names_of (values subs.now) }
-    ensures place { result ≡ place_called (values subs.now) (body_value card.now) }
-{
-    match card {
-        Body::Dev(_, _) => None,
-        Body::Call(_, call) => place_of(subs, call.sub()),
     }
 }
 
@@ -56,7 +39,7 @@ fn count_card(calls: &mut [u128], subs: &IndexMap<Name, Sub>, card: &Body)
     ensures counted { (p : ℕ) → slice_index calls.new p
         ≡ slice_index calls.old p + calls_on (values subs.now) (body_value card.now ∷ []) p }
 {
-    if let Some(place) = callee(subs, card) {
+    if let Some(place) = called_place(subs, card) {
         count(calls, place);
     }
 }
@@ -154,7 +137,7 @@ fn release_card(
     ensures freed { OnOk result ((p : ℕ) → times p ready.new.items + uncalled_at calls.old p
         ≡ times p ready.old.items + uncalled_at calls.new p) }
 {
-    match callee(subs, card) {
+    match called_place(subs, card) {
         Some(place) => release(calls, ready, place),
         None => Ok(()),
     }
@@ -208,21 +191,21 @@ fn release_calls(
 
 /// Numbers of the subcircuits, by their places, by which no call of a subcircuit goes up. Where no subcircuit leads back to
 /// itself, each call goes down.
-pub fn levels(alloc: Global, subs: &IndexMap<Name, Sub>) -> Result<Vec<usize>, AllocError>
+pub fn ranks(alloc: Global, subs: &IndexMap<Name, Sub>) -> Result<Vec<usize>, AllocError>
     requires keyed { keys subs.now ≡ names_of (values subs.now) }
-    ensures not_up { IfOk result (λ levels. AreLevels (values subs.now) levels.items) }
-    ensures down { IfOk result (λ levels. NoneBack (values subs.now)
-        → Down (level_in (values subs.now) levels.items) (values subs.now)) }
+    ensures not_up { IfOk result (λ ranks. AreRanks (values subs.now) ranks.items) }
+    ensures down { IfOk result (λ ranks. NoneBack (values subs.now)
+        → Down (rank_in (values subs.now) ranks.items) (values subs.now)) }
 {
     let mut calls = call_counts(alloc, subs)?;
     let mut ready = uncalled(alloc, &calls)?;
-    let mut levels = vec![in alloc; 0; subs.len()]?;
+    let mut ranks = vec![in alloc; 0; subs.len()]?;
     let mut next = subs.len();
     // What nothing calls any more is next; the numbers go down to 1.
     while let Some(place) = ready.pop() {
-        levels[place] = next;
+        ranks[place] = next;
         next -= 1;
         release_calls(&mut calls, &mut ready, subs, place)?;
     }
-    Ok(levels)
+    Ok(ranks)
 }

@@ -2,7 +2,7 @@ use Rattle.std.proofs.Common.{◌≡◌, ◌+◌, ◌≤◌, ℕ, length, get_or
 use Rattle.indexmap.specs.IndexMap.{values}
 use Rattle.gl_deck.specs.Bodies.{bodies_value}
 use Rattle.gl_deck.specs.CallCounts.{calls_on, times, uncalled_at}
-use Rattle.gl_deck.proofs.levels.release_cards.Given as goal
+use Rattle.gl_deck.proofs.ranks.release_cards.Given as goal
 
 abbrev pub invariant-loop-rest : goal.invariant-loop-rest
 invariant-loop-rest l = record {

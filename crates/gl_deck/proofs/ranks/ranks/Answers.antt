@@ -8,20 +8,20 @@ use Rattle.gl_deck.specs.CallCounts.{uncalled_at}
 use Rattle.gl_deck.proofs.NumberLaws.{IsNumbering, begins_with, last_within, last_left, last_enough}
 use Rattle.gl_deck.proofs.NumberSteps.{advances}
 use Rattle.gl_deck.proofs.NumberEnds.{none_up, all_down}
-use Rattle.gl_deck.proofs.levels.levels.Goals as goal
+use Rattle.gl_deck.proofs.ranks.ranks.Goals as goal
 
 pub loop-place-init : goal.loop-place-init
 loop-place-init c =
     let subs = values c.args.subs.now in
     let size = sym (length-map c.args.subs.now.entries (λ e. e.1)) in
-    begins_with subs c.in_ok-calls.calls.items c.in_ok-ready.ready.items c.in_ok-levels.levels.items c.len.result c.len-next.result
-    (c.len.ensures.len ∙ size) (c.in_ok-levels.ensures.items_if_clones_equal (λ y h. h)) (c.len-next.ensures.len ∙ size)
+    begins_with subs c.in_ok-calls.calls.items c.in_ok-ready.ready.items c.in_ok-ranks.ranks.items c.len.result c.len-next.result
+    (c.len.ensures.len ∙ size) (c.in_ok-ranks.ensures.items_if_clones_equal (λ y h. h)) (c.len-next.ensures.len ∙ size)
     c.in_ok-calls.ensures.sized c.in_ok-calls.ensures.counted (λ p. c.in_ok-ready.ensures.each_once p ∙ ap (λ xs. uncalled_at xs p) c.deref.ensures.value)
 
 pub index_mut-requires : goal.index_mut-requires
 index_mut-requires c =
     let low = last_within _ _ c.loop-place.invariant c.in-Some.ensures.items in
-    let own = c.loop-place.levels.ok.0 in
+    let own = c.loop-place.ranks.ok.0 in
     omega (arith, low, own)
 
 pub overflow_sub-next : goal.overflow_sub-next
@@ -45,18 +45,18 @@ loop-place-preserved c =
     let subs = values c.args.subs.now in
     let old = c.loop-place.calls.items in
     let new = c.release_calls.new.calls in
-    let levels = c.loop-place.levels.items in
+    let ranks = c.loop-place.ranks.items in
     let value = c.deref_mut.ensures.value in
     let kept : length new ≡ length old = c.release_calls.auto.calls ∙ ap length value in
-    let next = advances subs old c.pop.new.self.items c.loop-place.ready.items levels new c.release_calls.new.ready.items c.loop-place.next c.in-Some.place c.loop-place.invariant c.in-Some.ensures.items kept
+    let next = advances subs old c.pop.new.self.items c.loop-place.ready.items ranks new c.release_calls.new.ready.items c.loop-place.next c.in-Some.place c.loop-place.invariant c.in-Some.ensures.items kept
     (λ p. ap (λ xs. get_or xs p 0) (sym value) ∙ c.in_ok-release_calls.ensures.fewer p)
     (λ p. let h = c.in_ok-release_calls.ensures.freed p in let k = ap (λ xs. uncalled_at xs p) value in omega (arith, h, k)) in
-    subst (λ (xs : List ℕ). IsNumbering subs xs c.release_calls.new.ready.items (set levels c.in-Some.place c.loop-place.next) (c.loop-place.next - 1)) (sym (back new old c.loop-place.calls.len c.loop-place.calls.ok.0 kept)) next
+    subst (λ (xs : List ℕ). IsNumbering subs xs c.release_calls.new.ready.items (set ranks c.in-Some.place c.loop-place.next) (c.loop-place.next - 1)) (sym (back new old c.loop-place.calls.len c.loop-place.calls.ok.0 kept)) next
 
 pub returns-clause-not_up : goal.returns-clause-not_up
 returns-clause-not_up c =
     let distinct : IsDistinct same_text (names_of (values c.args.subs.now)) = subst (λ (names : List (List ℕ)). IsDistinct same_text names) c.requires.keyed c.len.ensures.unique in
-    none_up (values c.args.subs.now) c.loop-place.levels.items distinct c.loop-place.invariant.ordered
+    none_up (values c.args.subs.now) c.loop-place.ranks.items distinct c.loop-place.invariant.ordered
 
 nothing : (xs : List ℕ) → length xs ≡ 0 → xs ≡ []
 nothing [] e = refl
@@ -67,4 +67,4 @@ returns-clause-down c = λ none.
     let ready = c.loop-place.ready in
     let distinct : IsDistinct same_text (names_of (values c.args.subs.now)) = subst (λ (names : List (List ℕ)). IsDistinct same_text names) c.requires.keyed c.len.ensures.unique in
     let empty : ready.items ≡ [] = nothing ready.items (let e = c.in_default.ensures.cases.0 in let own = ready.ok.0 in omega (arith, e, own)) in
-    all_down (values c.args.subs.now) c.loop-place.calls.items ready.items c.loop-place.levels.items c.loop-place.next distinct c.loop-place.invariant empty none
+    all_down (values c.args.subs.now) c.loop-place.calls.items ready.items c.loop-place.ranks.items c.loop-place.next distinct c.loop-place.invariant empty none

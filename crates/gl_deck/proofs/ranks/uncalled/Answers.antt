@@ -2,7 +2,7 @@ use Rattle.std.proofs.Common.{◌≡◌, ◌∙◌, take, ap}
 use Rattle.std.proofs.lemmas.List.{take_all}
 use Rattle.gl_deck.specs.CallCounts.{uncalled_at}
 use Rattle.gl_deck.proofs.ReadyLaws.{front_more}
-use Rattle.gl_deck.proofs.levels.uncalled.Goals as goal
+use Rattle.gl_deck.proofs.ranks.uncalled.Goals as goal
 
 pub loop-place-preserved : goal.loop-place-preserved
 loop-place-preserved c = front_more c.args.calls.now c.loop-place.places.items c.add_uncalled.new.ready.items c.loop-place.place c.loop-place-test.true c.loop-place.invariant c.in_ok-add_uncalled.ensures.added

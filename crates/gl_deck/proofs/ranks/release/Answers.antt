@@ -1,7 +1,7 @@
 use Rattle.std.proofs.Common.{Result, Ok, Err}
 use Rattle.std.specs.Prelude.{OnOk}
 use Rattle.gl_deck.proofs.ReadyLaws.{freed}
-use Rattle.gl_deck.proofs.levels.release.Goals as goal
+use Rattle.gl_deck.proofs.ranks.release.Goals as goal
 
 on_ok : {A E : Type 0} (r : Result A E) (P Q : Type 0) → OnOk r P → (P → Q) → OnOk r Q
 on_ok (Ok x) P Q h f = f h

@@ -1,7 +1,7 @@
 use Rattle.std.proofs.Common.{◌≡◌, ◌+◌, ◌*◌, ◌<◌, ◌^◌, ℕ, length, get_or}
 use Rattle.indexmap.specs.IndexMap.{values}
 use Rattle.gl_deck.specs.CallCounts.{calls_from}
-use Rattle.gl_deck.proofs.levels.count_callers.Given as goal
+use Rattle.gl_deck.proofs.ranks.count_callers.Given as goal
 
 abbrev pub invariant-loop-rest : goal.invariant-loop-rest
 invariant-loop-rest l = record {

@@ -2,7 +2,7 @@ use Rattle.std.proofs.Common.{◌≡◌, ◌+◌, ◌<◌, ◌^◌, ℕ, length,
 use Rattle.indexmap.specs.IndexMap.{values}
 use Rattle.gl_deck.specs.Bodies.{bodies_value}
 use Rattle.gl_deck.specs.CallCounts.{calls_on}
-use Rattle.gl_deck.proofs.levels.count_cards.Given as goal
+use Rattle.gl_deck.proofs.ranks.count_cards.Given as goal
 
 abbrev pub invariant-loop-rest : goal.invariant-loop-rest
 invariant-loop-rest l = record {
