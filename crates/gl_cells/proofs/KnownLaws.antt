@@ -1,4 +1,6 @@
 -- What is known of a library that was read.
+use Rattle.gl_fault.proofs.FirstLaws.{none_first, none_each, or_else_ok}
+use Rattle.gl_fault.specs.Refusals.{when, first_some, or_else}
 use Rattle.std.proofs.Common.{◌≡◌, ◌<◌, ◌≤◌, ◌∙◌, ℕ, zero, suc, List, [], ◌∷◌, ◌++◌, length, map, cond, Bool, true, false, Option, Some, None, Result, Ok, Err, All, refl, sym, ap, subst, arith}
 use Rattle.std.specs.Prelude.{◌&&◌, find, flat_map, nat_lt, not, option_map, slice_get}
 use Rattle.std.specs.List.{list_all}
@@ -10,22 +12,14 @@ use Rattle.gl_text.specs.CellCards.{devices_in, IsCellOf}
 use Rattle.gl_printed.specs.ReadDecks.{IsReadDeck}
 use Rattle.gl_known.specs.Known.{IsKnownDeck, IsKnownSub}
 use Rattle.gl_printed.proofs.ReadDeckLaws.{read_fine}
-use Rattle.gl_known.proofs.DecksRead.{deck_read}
-use Rattle.gl_base.specs.Libraries.{CELLS, CELL_CARDS, PORTS, LEVEL, CELL_EXPANDED, Cause, Cell, Library, Skip, cause_if, cells_cause, cell_of, checked, clash_cause, clash_in, empty_else, first_cause, library_cause, library_of, limit_cause, loose, loose_port, nodes_of, own_skip, read_library, skip_of, top_cause, unless, uses_else}
+use Rattle.gl_known.proofs.DecksRead.{file_read}
+use Rattle.gl_base.specs.Libraries.{CELLS, CELL_CARDS, PORTS, LEVEL, CELL_EXPANDED, Cause, Cell, Library, Skip, cells_cause, cell_of, checked, clash_cause, clash_of_cell, empty_else, library_cause, library_of, limit_cause, loose, loose_port, nodes_of, own_skip, read_library, skip_of, top_cause, uses_else}
 use Rattle.gl_cells.specs.Limited.{clashes_cause, limits_cause}
 use Rattle.gl_cells.specs.KnownLibraries.{AreSearched, IsKnownLibrary, IsSearchedCell, IsWithinLimits}
 
 -- ---- no cause
 
-rest_none : (o : Option Cause) (os : List (Option Cause)) → first_cause (o ∷ os) ≡ None → (o ≡ None) × (first_cause os ≡ None)
-rest_none None os e = (refl, e)
-rest_none (Some cause) os e = absurd cc
-
-none_each : {A : Type 0} (f : A → Option Cause) (P : A → Type 0) → ((x : A) → f x ≡ None → P x) → (xs : List A) → first_cause (map f xs) ≡ None → All P xs
-none_each f P g [] e = λ k d lt. absurd (omega arith)
-none_each f P g (x ∷ xs) e = let h = rest_none (f x) (map f xs) e in All-cons P x xs (g x h.0) (none_each f P g xs h.1)
-
-not_past : (b : Bool) (most number : ℕ) (cause : Cause) → nat_lt most number ≡ b → cause_if b cause ≡ None → number ≤ most
+not_past : (b : Bool) (most number : ℕ) (cause : Cause) → nat_lt most number ≡ b → when b cause ≡ None → number ≤ most
 not_past true most number cause t e = absurd cc
 not_past false most number cause t e = grind (arith, nat_tests)
 
@@ -93,10 +87,10 @@ searched deck known place s c e g none =
 
 within_limits : (subs : List Sub) (s : Sub) → limit_cause subs s ≡ None → IsWithinLimits subs s
 within_limits subs s e =
-    let a = rest_none _ _ e in
-    let b = rest_none _ _ a.1 in
-    let c = rest_none _ _ b.1 in
-    let d = rest_none _ _ c.1 in
+    let a = none_first _ _ e in
+    let b = none_first _ _ a.1 in
+    let c = none_first _ _ b.1 in
+    let d = none_first _ _ c.1 in
     record {
       cards = not_past _ CELL_CARDS _ _ refl a.0;
       ports = not_past _ PORTS _ _ refl b.0;
@@ -104,44 +98,35 @@ within_limits subs s e =
       expanded = not_past _ CELL_EXPANDED _ _ refl d.0;
     }
 
-known_by : (deck : Deck) → IsReadDeck deck → IsKnownDeck FILE deck → library_cause deck ≡ None → IsKnownLibrary (library_of deck)
-known_by deck read known e =
-    let a = rest_none (top_cause deck.top) _ e in
-    let b = rest_none (cells_cause deck.subs) _ a.1 in
-    let c = rest_none (limits_cause deck.subs deck.subs) _ b.1 in
-    let d = rest_none (clashes_cause deck.globals deck.subs deck.subs) _ c.1 in
+known_by : (deck : Deck) → IsKnownDeck FILE deck → library_cause deck ≡ None → IsKnownLibrary (library_of deck)
+known_by deck known e =
+    let a = none_first (top_cause deck.top) _ e in
+    let b = none_first (cells_cause deck.subs) _ a.1 in
+    let c = none_first (limits_cause deck.subs deck.subs) _ b.1 in
+    let d = none_first (clashes_cause deck.globals deck.subs deck.subs) _ c.1 in
     record {
-      is_read = read;
       is_known = known;
       no_top = no_top_card deck.top a.0;
       cells_few = short _ deck.subs CELLS b.0;
       cells = refl;
       limits = none_each (limit_cause deck.subs) (IsWithinLimits deck.subs) (within_limits deck.subs) deck.subs c.0;
-      no_clash = none_each (clash_cause deck.globals deck.subs) (λ (s : Sub). clash_in deck.globals deck.subs s ≡ None) (λ s h. no_option _ (clash_in deck.globals deck.subs s) h) deck.subs d.0;
+      no_clash = none_each (clash_cause deck.globals deck.subs) (λ (s : Sub). clash_of_cell deck.globals deck.subs s ≡ None) (λ s h. no_option _ (clash_of_cell deck.globals deck.subs s) h) deck.subs d.0;
       searched = searched deck known.subs_known;
     }
-
-from_unless : (o : Option Cause) (v l : Library) → unless o v ≡ Ok l → (o ≡ None) × (v ≡ l)
-from_unless None v l e = (refl, cc)
-from_unless (Some cause) v l e = absurd cc
 
 -- what was read is of an accepted deck
 abbrev pub IsLibraryOf : Library → Deck → Type 0
 IsLibraryOf l deck = (library_cause deck ≡ None) × (library_of deck ≡ l)
 
 pub from_checked : (r : Result Deck Fault) (l : Library) → checked r ≡ Ok l → (deck : Deck) × (r ≡ Ok deck) × IsLibraryOf l deck
-from_checked (Ok deck) l e = (deck, refl, from_unless (library_cause deck) (library_of deck) l e)
+from_checked (Ok deck) l e = (deck, refl, or_else_ok (library_cause deck) (library_of deck) l e)
 from_checked (Err fault) l e = absurd cc
-
-fits_file : (size : ℕ) (deck : Deck) → size ≤ FILE → IsKnownDeck size deck → IsKnownDeck FILE deck
-fits_file size deck le known = let a = known.small in record { top_cards = known.top_cards; subs_known = known.subs_known; small = omega arith }
 
 pub known_library : (bytes : List ℕ) (l : Library) → length bytes ≤ FILE → read_library bytes ≡ Ok l → IsKnownLibrary l
 known_library bytes l le e =
     let h = from_checked (read_deck false bytes) l e in
     let deck = h.0 in
-    let fits = fits_file (length bytes) deck le (deck_read false bytes deck h.1) in
-    subst IsKnownLibrary h.2.1 (known_by deck (read_fine false bytes deck h.1) fits h.2.0)
+    subst IsKnownLibrary h.2.1 (known_by deck (file_read false bytes deck le h.1) h.2.0)
 
 -- ---- a cell of devices
 
@@ -174,4 +159,4 @@ library_with deck cells = record { deck = deck; cells = cells }
 pub library_is : (bytes : List ℕ) (deck : Deck) (cells : List Cell) → read_deck false bytes ≡ Ok deck → library_cause deck ≡ None → cells ≡ map (cell_of deck.subs) deck.subs
     → read_library bytes ≡ Ok (library_with deck cells)
 library_is bytes deck cells e none is =
-    ap checked e ∙ ap (λ (o : Option Cause). unless o (library_of deck)) none ∙ ap (λ (cs : List Cell). Ok (library_with deck cs)) (sym is)
+    ap checked e ∙ ap (λ (o : Option Cause). or_else o (library_of deck)) none ∙ ap (λ (cs : List Cell). Ok (library_with deck cs)) (sym is)

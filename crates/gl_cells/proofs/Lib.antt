@@ -1,5 +1,5 @@
 mod EarliestLaws
-mod KnownLaws
+pub mod KnownLaws
 mod NameLaws
 mod PlacedLaws
 mod RankLaws

@@ -9,10 +9,10 @@ use Rattle.std.proofs.lemmas.List.Folds.{list_any-append}
 use Rattle.gl_text.specs.LogicalLines.{same_text}
 use Rattle.gl_text.specs.Decks.{Sub, callees, find_sub}
 use Rattle.gl_deck.specs.Bodies.{names_of}
-use Rattle.gl_deck.specs.Levels.{place_in}
+use Rattle.gl_deck.specs.Places.{place_in, places_of}
 use Rattle.gl_deck.proofs.CallLaws.{flipped}
 use Rattle.gl_deck.proofs.PlaceLaws.{place_within}
-use Rattle.gl_size.specs.Tallies.{has_mark, places_of}
+use Rattle.gl_size.specs.Tallies.{has_mark}
 use Rattle.gl_base.specs.Libraries.{above, greatest, level_through, own_skip, is_called, skip_by, skipped_callee, is_skipped_through, uses_else, Skip}
 use Rattle.gl_cells.specs.Outlines.{Outline, outline_of, outlines_of, level_by, skipped_by, levels_through, marks_through}
 

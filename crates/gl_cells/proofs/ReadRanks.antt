@@ -7,7 +7,7 @@ use Rattle.gl_text.specs.Levels.{Down}
 use Rattle.gl_printed.specs.ReadDecks.{FindsSubWithin, IsReadDeck, IsReadSub}
 use Rattle.gl_printed.proofs.Each.{each_to}
 use Rattle.gl_printed.proofs.ReadDeckLaws.{read_fine}
-use Rattle.gl_deck.specs.Levels.{HasRank}
+use Rattle.gl_deck.specs.Ranks.{HasRank}
 use Rattle.gl_deck.proofs.Members.{In, all_in, all_of}
 use Rattle.gl_deck.proofs.RankLaws.{ranked_below}
 use Rattle.gl_base.specs.Libraries.{Library, read_library}

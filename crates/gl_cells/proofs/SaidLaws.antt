@@ -2,7 +2,7 @@
 use Rattle.std.proofs.Common.{◌≡◌, ◌∙◌, ℕ, List, Bool, Option, ap, length, map}
 use Rattle.std.specs.Prelude.{option_to_list}
 use Rattle.gl_text.specs.Decks.{Body, Sub, callees, find_sub}
-use Rattle.gl_deck.specs.Levels.{place_in}
+use Rattle.gl_deck.specs.Places.{place_in}
 use Rattle.gl_size.specs.Tallies.{has_mark}
 use Rattle.gl_base.specs.Libraries.{Cell, Skip, cell_of, is_called, is_skipped_through, level_of, own_skip, skip_of, skipped_callee, uses_else}
 use Rattle.gl_cells.specs.Outlines.{marked_callee, marks_through}

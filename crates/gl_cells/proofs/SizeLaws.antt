@@ -31,8 +31,8 @@ one_of s (t ∷ subs) (inr i) =
     let b = sum_by-cons sub_size t subs in
     omega arith
 
-pub countable : (size : ℕ) (deck : Deck) → size ≤ FILE → IsKnownDeck size deck → AreCountable deck.subs
-countable size deck le known s among =
+pub countable : (deck : Deck) → IsKnownDeck FILE deck → AreCountable deck.subs
+countable deck known s among =
     let a = known.small in
     let b = one_of s deck.subs (among_in s deck.subs among) in
     let c = cards_sized s.cards in

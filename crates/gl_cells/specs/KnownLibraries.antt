@@ -6,9 +6,8 @@ use Rattle.gl_text.specs.Cards.{IsDeviceCard}
 use Rattle.gl_text.specs.Decks.{Sub, has_twice, is_in}
 use Rattle.gl_text.specs.Flattening.{count, one}
 use Rattle.gl_text.specs.CellCards.{devices_in}
-use Rattle.gl_printed.specs.ReadDecks.{IsReadDeck}
 use Rattle.gl_known.specs.Known.{IsKnownDeck}
-use Rattle.gl_base.specs.Libraries.{CELLS, CELL_CARDS, PORTS, LEVEL, CELL_EXPANDED, Cell, Library, cell_of, clash_in, level_of, nodes_of}
+use Rattle.gl_base.specs.Libraries.{CELLS, CELL_CARDS, PORTS, LEVEL, CELL_EXPANDED, Cell, Library, cell_of, clash_of_cell, level_of, nodes_of}
 
 -- a cell keeps the limits
 pub record IsWithinLimits (subs : List Sub) (s : Sub) : Type 0 where
@@ -31,11 +30,10 @@ AreSearched l = (place : ℕ) (s : Sub) (c : Cell) → slice_get l.deck.subs pla
 
 -- its deck is one as it is read, of cells alone; they keep the limits, and no name clashes in one
 pub record IsKnownLibrary (l : Library) : Type 0 where
-  pub is_read : IsReadDeck l.deck
   pub is_known : IsKnownDeck FILE l.deck
   pub no_top : l.deck.top ≡ []
   pub cells_few : length l.deck.subs ≤ CELLS
   pub cells : l.cells ≡ map (cell_of l.deck.subs) l.deck.subs
   pub limits : All (IsWithinLimits l.deck.subs) l.deck.subs
-  pub no_clash : All (λ (s : Sub). clash_in l.deck.globals l.deck.subs s ≡ None) l.deck.subs
+  pub no_clash : All (λ (s : Sub). clash_of_cell l.deck.globals l.deck.subs s ≡ None) l.deck.subs
   pub searched : AreSearched l

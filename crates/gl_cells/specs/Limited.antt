@@ -2,7 +2,8 @@
 use Rattle.std.specs.Prelude.{ℕ, ◌<◌, ◌^◌, List, length, map, Option}
 use Rattle.std.specs.List.{IsAmong}
 use Rattle.gl_text.specs.Decks.{Sub}
-use Rattle.gl_base.specs.Libraries.{Cause, first_cause, limit_cause, clash_cause}
+use Rattle.gl_fault.specs.Refusals.{first_some}
+use Rattle.gl_base.specs.Libraries.{Cause, limit_cause, clash_cause}
 
 -- a cell with less than 2^32 cards and ports
 pub record IsCountable (s : Sub) : Type 0 where
@@ -15,8 +16,8 @@ AreCountable subs = (s : Sub) → IsAmong subs s → IsCountable s
 
 -- the first limit that the first cell breaks of those that break one
 abbrev pub limits_cause : List Sub → List Sub → Option Cause
-limits_cause subs cells = first_cause (map (limit_cause subs) cells)
+limits_cause subs cells = first_some (map (limit_cause subs) cells)
 
 -- the clash of the first cell that has one
 abbrev pub clashes_cause : List (List ℕ) → List Sub → List Sub → Option Cause
-clashes_cause rails subs cells = first_cause (map (clash_cause rails subs) cells)
+clashes_cause rails subs cells = first_some (map (clash_cause rails subs) cells)

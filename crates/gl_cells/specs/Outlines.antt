@@ -1,8 +1,8 @@
 -- What is kept of a cell to find its level and whether it is skipped, by the places of the cells in their list.
 use Rattle.std.specs.Prelude.{ℕ, suc, ◌||◌, Bool, List, map, find, Option, is_some, option_to_list, slice_index}
 use Rattle.gl_text.specs.Decks.{Body, Sub, callees}
-use Rattle.gl_deck.specs.Levels.{place_in}
-use Rattle.gl_size.specs.Tallies.{calls_of, has_mark}
+use Rattle.gl_deck.specs.Places.{place_in, calls_of}
+use Rattle.gl_size.specs.Tallies.{has_mark}
 use Rattle.gl_base.specs.Libraries.{greatest, level_through, own_skip, is_skipped_through}
 
 -- whether it is skipped by itself, and the places of the cells that it calls, as often as it calls them

@@ -4,7 +4,8 @@ ghost use Rattle.indexmap.specs.IndexMap.{keys, values};
 ghost use Rattle.gl_deck.specs.Bodies.{bodies_value, names_of};
 ghost use Rattle.gl_size.specs.Excesses.{AreSizes};
 ghost use Rattle.gl_base.specs.Libraries.{CELLS as MOST_CELLS, cell_of, cells_cause, level_of, limit_cause, top_cause};
-ghost use Rattle.gl_cells.specs.Causes.{cause_of, IsFoundCause};
+ghost use Rattle.gl_fault.specs.Refusals.{IsFound};
+ghost use Rattle.gl_cells.specs.Causes.{cause_of};
 ghost use Rattle.gl_cells.specs.Limited.{limits_cause, AreCountable, IsCountable};
 ghost use Rattle.gl_cells.specs.Outlines.{marks_through};
 
@@ -23,7 +24,7 @@ const CELLS: usize = 256;
 /// Refuses the first device or X card outside subcircuits.
 pub fn refuse_top(cards: &[Body]) -> Result<(), LibFault>
     ensures ok { OnOk result (top_cause (bodies_value cards.now) ≡ None) }
-    ensures refused { IfErr result (λ fault. IsFoundCause (cause_of fault) (top_cause (bodies_value cards.now))) }
+    ensures refused { IfErr result (λ fault. IsFound (cause_of fault) (top_cause (bodies_value cards.now))) }
 {
     match cards.first() {
         Some(card) => Err(LibFault::TopCard { line: card.line() }),
@@ -34,7 +35,7 @@ pub fn refuse_top(cards: &[Body]) -> Result<(), LibFault>
 /// Refuses the cell behind as many as there may be.
 pub fn refuse_cells(alloc: Global, cells: &[Sub]) -> Result<(), LibFault>
     ensures ok { OnOk result (cells_cause cells.now ≡ None) }
-    ensures refused { IfErr result (λ fault. IsFoundCause (cause_of fault) (cells_cause cells.now)) }
+    ensures refused { IfErr result (λ fault. IsFound (cause_of fault) (cells_cause cells.now)) }
 {
     match cells.get(CELLS) {
         Some(cell) => Err(LibFault::CellLimit {
@@ -62,7 +63,7 @@ fn judged_cell(
     requires few { IsCountable cell.now }
     ensures fits { OnOk result (limit_cause (values subs.now) cell.now ≡ None) }
     ensures cell { IfOk result (λ said. said ≡ cell_of (values subs.now) cell.now) }
-    ensures refused { IfErr result (λ fault. IsFoundCause (cause_of fault) (limit_cause (values subs.now) cell.now)) }
+    ensures refused { IfErr result (λ fault. IsFound (cause_of fault) (limit_cause (values subs.now) cell.now)) }
 {
     refuse_limits(alloc, subs, sizes, level, cell)?;
     let skip = skip(alloc, subs, marks, cell)?;
@@ -84,7 +85,7 @@ fn judged_cells(
     requires few { AreCountable (values subs.now) }
     ensures fits { OnOk result (limits_cause (values subs.now) (values subs.now) ≡ None) }
     ensures cells { IfOk result (λ v. v.items ≡ map (cell_of (values subs.now)) (values subs.now)) }
-    ensures refused { IfErr result (λ fault. IsFoundCause (cause_of fault) (limits_cause (values subs.now) (values subs.now))) }
+    ensures refused { IfErr result (λ fault. IsFound (cause_of fault) (limits_cause (values subs.now) (values subs.now))) }
 {
     let cells = subs.values().as_slice();
     let mut judged = Vec::with_capacity(alloc, cells.len())?;
@@ -105,7 +106,7 @@ pub fn cells_within_limits(
     requires few { AreCountable (values subs.now) }
     ensures fits { OnOk result (limits_cause (values subs.now) (values subs.now) ≡ None) }
     ensures cells { IfOk result (λ v. v.items ≡ map (cell_of (values subs.now)) (values subs.now)) }
-    ensures refused { IfErr result (λ fault. IsFoundCause (cause_of fault) (limits_cause (values subs.now) (values subs.now))) }
+    ensures refused { IfErr result (λ fault. IsFound (cause_of fault) (limits_cause (values subs.now) (values subs.now))) }
 {
     let outlines = outlines(alloc, subs)?;
     let levels = levels(alloc, &outlines)?;

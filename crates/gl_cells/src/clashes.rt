@@ -5,7 +5,8 @@ ghost use Rattle.gl_printed.specs.ReadDecks.{AllDiffer, body_name};
 ghost use Rattle.gl_deck.specs.Bodies.{names_of};
 ghost use Rattle.gl_flat.specs.Ways.{NamesDiffer, PortsDiffer};
 ghost use Rattle.gl_base.specs.Libraries.{clash_cause};
-ghost use Rattle.gl_cells.specs.Causes.{cause_of, IsFoundCause};
+ghost use Rattle.gl_fault.specs.Refusals.{IsFound};
+ghost use Rattle.gl_cells.specs.Causes.{cause_of};
 ghost use Rattle.gl_cells.specs.Limited.{clashes_cause};
 
 use crate::{LibFault, Name, Sub};
@@ -25,7 +26,7 @@ fn refuse_clash(
     requires rails { AllDiffer rails.now }
     requires names { AllDiffer (map body_name cell.now.cards) }
     ensures ok { OnOk result (clash_cause rails.now (values subs.now) cell.now ≡ None) }
-    ensures refused { IfErr result (λ fault. IsFoundCause (cause_of fault) (clash_cause rails.now (values subs.now) cell.now)) }
+    ensures refused { IfErr result (λ fault. IsFound (cause_of fault) (clash_cause rails.now (values subs.now) cell.now)) }
 {
     match first_clash(alloc, subs, rails, cell)? {
         Some(name) => Err(LibFault::CellClash {
@@ -47,7 +48,7 @@ pub fn refuse_clashes(
     requires rails { AllDiffer rails.now }
     requires names { NamesDiffer (values subs.now) }
     ensures ok { OnOk result (clashes_cause rails.now (values subs.now) (values subs.now) ≡ None) }
-    ensures refused { IfErr result (λ fault. IsFoundCause (cause_of fault) (clashes_cause rails.now (values subs.now) (values subs.now))) }
+    ensures refused { IfErr result (λ fault. IsFound (cause_of fault) (clashes_cause rails.now (values subs.now) (values subs.now))) }
 {
     let cells = subs.values().as_slice();
     for cell in cells {

@@ -1,11 +1,12 @@
 //! Laws over the definitions, and rows of them worked out by hand: each function does nothing.
+ghost use Rattle.gl_fault.specs.Refusals.{first_some};
 ghost use Rattle.std.specs.Prelude.{◌≡◌, ℕ, Bool, List, length, ◌++◌, ◌∷◌, [], None, Some, Ok, Err, IsOkAnd, codes, map, replicate};
 ghost use Rattle.std.specs.List.{AllByRecursion};
 ghost use Rattle.gl_text.specs.LogicalLines.{loose_ends};
 ghost use Rattle.gl_text.specs.Decks.{Deck, read_deck};
 ghost use Rattle.gl_printed.specs.ReadDecks.{IsReadDeck};
-ghost use Rattle.gl_deck.specs.Levels.{HasRank};
-ghost use Rattle.gl_base.specs.Libraries.{Cell, Library, read_library, refused, top_card, cell_limit, cell_clash, cells, devices, ports, level, flat, cells_cause, limit_cause, library_cause, first_cause, empty, loose, uses};
+ghost use Rattle.gl_deck.specs.Ranks.{HasRank};
+ghost use Rattle.gl_base.specs.Libraries.{Cell, Library, read_library, refused, top_card, cell_limit, cell_clash, cells, devices, ports, level, flat, cells_cause, limit_cause, library_cause, empty, loose, uses};
 ghost use Rattle.gl_cells.specs.Settled.{HasSettledLevel, HasSettledSkip};
 ghost use Rattle.gl_cells.specs.Samples.{resistor, caller, cell_named};
 
@@ -67,5 +68,5 @@ pub fn limit_rows()
     ensures ports_64 { limit_cause [] (cell_named (codes "c") (replicate 64 (codes "a")) []) ≡ None }
     ensures flat_65792 { limit_cause (cell_named (codes "d") [] (replicate 256 resistor) ∷ []) (cell_named (codes "c") [] (replicate 256 (caller (codes "d")))) ≡ Some (cell_limit (codes "c") flat 65537) }
     ensures flat_65536 { limit_cause (cell_named (codes "d") [] (replicate 256 resistor) ∷ []) (cell_named (codes "c") [] (resistor ∷ replicate 255 (caller (codes "d")))) ≡ None }
-    ensures first_cell { first_cause (map (limit_cause []) (cell_named (codes "b") (replicate 65 (codes "a")) [] ∷ cell_named (codes "c") [] (replicate 257 resistor) ∷ [])) ≡ Some (cell_limit (codes "b") ports 65) }
+    ensures first_cell { first_some (map (limit_cause []) (cell_named (codes "b") (replicate 65 (codes "a")) [] ∷ cell_named (codes "c") [] (replicate 257 resistor) ∷ [])) ≡ Some (cell_limit (codes "b") ports 65) }
 {}

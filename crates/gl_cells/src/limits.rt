@@ -4,8 +4,9 @@ ghost use Rattle.indexmap.specs.IndexMap.{keys, values};
 ghost use Rattle.gl_text.specs.Flattening.{count, one};
 ghost use Rattle.gl_deck.specs.Bodies.{names_of};
 ghost use Rattle.gl_size.specs.Excesses.{AreSizes};
-ghost use Rattle.gl_base.specs.Libraries.{CELL_EXPANDED as MOST_EXPANDED, cause_if, cell_limit, level_of, limit_cause};
-ghost use Rattle.gl_cells.specs.Causes.{cause_of, limit_of, IsFoundCause};
+ghost use Rattle.gl_fault.specs.Refusals.{when, IsFound};
+ghost use Rattle.gl_base.specs.Libraries.{CELL_EXPANDED as MOST_EXPANDED, cell_limit, level_of, limit_cause};
+ghost use Rattle.gl_cells.specs.Causes.{cause_of, limit_of};
 ghost use Rattle.gl_cells.specs.Limited.{IsCountable};
 
 use crate::{LibFault, Limit, Name, Sub};
@@ -33,8 +34,8 @@ fn refuse_more(
     number: u32,
     most: u32,
 ) -> Result<(), LibFault>
-    ensures ok { OnOk result (cause_if (nat_lt most number) (cell_limit cell.now (limit_of what) number) ≡ None) }
-    ensures refused { IfErr result (λ fault. IsFoundCause (cause_of fault) (cause_if (nat_lt most number) (cell_limit cell.now (limit_of what) number))) }
+    ensures ok { OnOk result (when (nat_lt most number) (cell_limit cell.now (limit_of what) number) ≡ None) }
+    ensures refused { IfErr result (λ fault. IsFound (cause_of fault) (when (nat_lt most number) (cell_limit cell.now (limit_of what) number))) }
 {
     if number > most {
         let cell = Name::of(alloc, cell.as_bytes())?;
@@ -65,7 +66,7 @@ pub fn refuse_limits(
     requires level { level ≡ level_of (values subs.now) cell.now }
     requires few { IsCountable cell.now }
     ensures ok { OnOk result (limit_cause (values subs.now) cell.now ≡ None) }
-    ensures refused { IfErr result (λ fault. IsFoundCause (cause_of fault) (limit_cause (values subs.now) cell.now)) }
+    ensures refused { IfErr result (λ fault. IsFound (cause_of fault) (limit_cause (values subs.now) cell.now)) }
 {
     let name = cell.head().name();
     let devices = cell.cards().len() as u32;

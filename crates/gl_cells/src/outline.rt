@@ -1,12 +1,11 @@
-ghost use Rattle.std.specs.Prelude.{◌≡◌, [], ◌∷◌, IfOk, option_to_list};
+ghost use Rattle.std.specs.Prelude.{◌≡◌, IfOk};
 ghost use Rattle.indexmap.specs.IndexMap.{keys, values};
-ghost use Rattle.gl_deck.specs.Bodies.{bodies_value, names_of};
-ghost use Rattle.gl_deck.specs.Levels.{place_in};
-ghost use Rattle.gl_size.specs.Tallies.{calls_of};
+ghost use Rattle.gl_deck.specs.Bodies.{names_of};
 ghost use Rattle.gl_cells.specs.Outlines.{outline_of, outlines_of};
 
 use crate::ports::own_skip;
-use crate::{Body, Name, Sub};
+use crate::{Name, Sub};
+use gl_deck::called_places;
 use indexmap::IndexMap;
 use std::alloc::{AllocError, Global};
 use std::marker::Model;
@@ -53,45 +52,6 @@ impl Outline {
     {
         &self.calls
     }
-}
-
-/// Where the cell of this name stands in the table.
-pub fn place_of(subs: &IndexMap<Name, Sub>, name: &Name) -> Option<usize>
-    requires keyed { keys subs.now ≡ names_of (values subs.now) }
-    ensures place { result ≡ place_in (values subs.now) name.now }
-{
-    subs.get_index_of(name)
-}
-
-/// Where the cell that a card calls stands in the table.
-fn called_place(subs: &IndexMap<Name, Sub>, card: &Body) -> Option<usize>
-    requires keyed { keys subs.now ≡ names_of (values subs.now) }
-    ensures place { option_to_list result ≡ calls_of (values subs.now) (bodies_value (card.now ∷ [])) }
-{
-    match card {
-        Body::Dev(_, _) => None,
-        Body::Call(_, call) => place_of(subs, call.sub()),
-    }
-}
-
-/// The places of the cells that cards call.
-fn called_places(
-    alloc: Global,
-    subs: &IndexMap<Name, Sub>,
-    cards: &[Body],
-) -> Result<Vec<usize>, AllocError>
-    requires keyed { keys subs.now ≡ names_of (values subs.now) }
-    ensures places { IfOk result (λ v. v.items ≡ calls_of (values subs.now) (bodies_value cards.now)) }
-{
-    let mut places = Vec::new(alloc);
-    let mut rest = cards;
-    while let [card, behind @ ..] = rest {
-        if let Some(place) = called_place(subs, card) {
-            places.push(place)?;
-        }
-        rest = behind;
-    }
-    Ok(places)
 }
 
 /// What is kept of each cell, in order.

@@ -2,7 +2,8 @@ ghost use Rattle.std.specs.Prelude.{◌≡◌, ◌≤◌, None, length, map, IfE
 ghost use Rattle.gl_text.specs.LogicalLines.{FILE};
 ghost use Rattle.gl_printed.specs.ReadDecks.{IsReadDeck};
 ghost use Rattle.gl_base.specs.Libraries.{cell_of, library_cause, read_library};
-ghost use Rattle.gl_cells.specs.Causes.{cause_of, Gives, IsFoundCause};
+ghost use Rattle.gl_fault.specs.Refusals.{IsFound};
+ghost use Rattle.gl_cells.specs.Causes.{cause_of, Gives};
 ghost use Rattle.gl_cells.specs.KnownLibraries.{IsKnownLibrary};
 ghost use Rattle.gl_cells.specs.Limited.{AreCountable};
 
@@ -10,8 +11,6 @@ use crate::cells::{cells_within_limits, refuse_cells, refuse_top};
 use crate::clashes::refuse_clashes;
 use crate::known::read_libraries_are_known;
 use crate::{Deck, LibCell, LibFault, Library};
-use gl_known::read_decks_are_known;
-use gl_printed::read_decks_are_fine;
 use std::alloc::Global;
 
 /// What is said of each cell of a deck that is a library.
@@ -20,7 +19,7 @@ fn judged(alloc: Global, deck: &Deck) -> Result<Vec<LibCell>, LibFault>
     requires few { AreCountable deck.now.subs }
     ensures accepted { OnOk result (library_cause deck.now ≡ None) }
     ensures cells { IfOk result (λ v. v.items ≡ map (cell_of deck.now.subs) deck.now.subs) }
-    ensures refused { IfErr result (λ fault. IsFoundCause (cause_of fault) (library_cause deck.now)) }
+    ensures refused { IfErr result (λ fault. IsFound (cause_of fault) (library_cause deck.now)) }
 {
     let subs = deck.subs();
     refuse_top(deck.top())?;
@@ -38,8 +37,6 @@ impl Library {
         ensures known { IfOk result IsKnownLibrary }
     {
         read_libraries_are_known();
-        read_decks_are_fine();
-        read_decks_are_known();
         let deck = Deck::read(alloc, bytes, false)?;
         let cells = judged(alloc, &deck)?;
         Ok(Library { deck, cells })

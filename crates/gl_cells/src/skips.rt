@@ -4,16 +4,17 @@ ghost use Rattle.std.specs.Option.{option_copied};
 ghost use Rattle.indexmap.specs.IndexMap.{keys, values};
 ghost use Rattle.gl_text.specs.Decks.{Sub as SubValue};
 ghost use Rattle.gl_deck.specs.Bodies.{bodies_value, names_of};
-ghost use Rattle.gl_deck.specs.Levels.{place_in};
+ghost use Rattle.gl_deck.specs.Places.{place_in};
 ghost use Rattle.gl_size.specs.Tallies.{has_mark};
 ghost use Rattle.gl_base.specs.Libraries.{own_skip as own_skip_of, uses_else};
 ghost use Rattle.gl_cells.specs.Outlines as outlines;
 ghost use Rattle.gl_cells.specs.Outlines.{marked_callee, marks_through, outlines_of};
 ghost use Rattle.gl_cells.specs.Skips.{skip_value};
 
-use crate::outline::{Outline, place_of};
+use crate::outline::Outline;
 use crate::ports::own_skip;
 use crate::{Body, Name, Skip, Sub};
+use gl_deck::place_of;
 use indexmap::IndexMap;
 use std::alloc::{AllocError, Global};
 

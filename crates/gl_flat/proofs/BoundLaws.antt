@@ -3,13 +3,13 @@ use Rattle.std.proofs.Common.{◌<◌, ◌≤◌, ◌+◌, ◌^◌, ℕ, List, [
 use Rattle.std.specs.Prelude.{option_to_list}
 use Rattle.gl_text.specs.LogicalLines.{same_text}
 use Rattle.gl_text.specs.Cards.{Head, spaced, subckt, ends, ended}
-use Rattle.gl_text.specs.Decks.{line_of, once}
-use Rattle.gl_text.specs.Flattening.{TEXT, Net, FlatDevice, Flat, net, net_name, device_name, bearers, bearer_name, around, flat_text}
+use Rattle.gl_text.specs.Decks.{line_of, once, global_line, model_line, passed_line}
+use Rattle.gl_text.specs.Flattening.{TEXT, Net, FlatDevice, Flat, net, net_name, device_name, flat_card, bearers, bearer_name, around, flat_text, flat_line}
 use Rattle.gl_card.specs.Lines.{spaced_all}
 use Rattle.gl_printed.proofs.Each.{each_append}
-use Rattle.gl_flat.specs.Lengths.{flat_line}
 use Rattle.gl_flat.specs.LongNames.{IsCountable, AreCountable}
-use Rattle.gl_flat.specs.Numbered.{nets_of, global_line, model_line, passed_line}
+use Rattle.gl_base.specs.BaseCircuit.{nets_of}
+use Rattle.gl_flat.proofs.FlatKept.{names_are}
 use Rattle.gl_flat.proofs.PrintingLaws.{device_words}
 
 behind_more : (xs ys : List ℕ) → length ys ≤ length (xs ++ ys)
@@ -113,9 +113,10 @@ lines_in_text f =
 pub names_countable : (f : Flat) → length (flat_text f) ≤ TEXT → AreCountable (flat_map bearers f.devices)
 names_countable f h = let e = lines_in_text f in all_countable f.devices (omega (arith, e, h))
 
-pub nets_fit : (f : Flat) → length (flat_text f) ≤ TEXT → length (nets_of f.devices) < 2 ^ 32
+pub nets_fit : (f : Flat) → length (flat_text f) ≤ TEXT → length (nets_of (map flat_card f.devices)) < 2 ^ 32
 nets_fit f h =
     let a = once_few (flat_map names f.devices) in
     let b = names_few f.devices in
     let e = lines_in_text f in
-    omega (arith, a, b, e, h)
+    let same = ap (λ (ns : List (List ℕ)). length (once ns)) (names_are f.devices) in
+    omega (arith, a, b, e, same, h)

@@ -7,16 +7,16 @@ use Rattle.std.specs.Cmp.Lexicographic.{nat_list_eq_equiv}
 use Rattle.std.proofs.lemmas.List.Folds.{list_any-append}
 use Rattle.indexmap.specs.IndexMap.{insert_entry}
 use Rattle.indexmap.specs.IndexSet.{insert_key}
+use Rattle.gl_fault.proofs.FirstLaws.{only}
 use Rattle.gl_text.specs.LogicalLines.{Fault, name_clash, same_text}
-use Rattle.gl_text.specs.Cards.{first_some, when}
+use Rattle.gl_fault.specs.Refusals.{first_some, when, ◌>>=◌, IsFound, IsRefusal}
 use Rattle.std.proofs.lemmas.Bool.{or_parts}
-use Rattle.gl_text.specs.Decks.{◌>>=◌, is_in, has_twice, once}
+use Rattle.gl_text.specs.Decks.{is_in, has_twice, once}
 use Rattle.gl_text.specs.Flattening.{Net, Bearer, device, net, net_name, top_net, bearer_name, same_path, clash, first_clash}
 use Rattle.gl_printed.specs.ReadDecks.{AllDiffer}
 use Rattle.gl_deck.proofs.CallLaws.{exact}
 use Rattle.gl_flat.proofs.DotLaws.{or_true}
 use Rattle.gl_flat.proofs.SoundLaws.{tops_once}
-use Rattle.gl_flat.specs.Refusals.{IsFound, IsRefusal}
 use Rattle.gl_flat.specs.SeenNames.{Seen, nothing_seen, has_dot, plain_names, same_net, is_below, takes_top_name, with_net, with_device, seen_with, seen_all}
 
 -- ---- truth values
@@ -263,14 +263,10 @@ abbrev error_of : Result Seen Fault → Option Fault
 error_of (Ok s) = None
 error_of (Err f) = Some f
 
-alone : (o : Option Fault) → o ≡ first_some (o ∷ [])
-alone None = refl
-alone (Some f) = refl
-
 clash_by : (s : Seen) (before : List Bearer) (b : Bearer) (bs : List Bearer) → Judged s before b → ((t : Seen) → Knows t (before ++ b ∷ []) → error_of (seen_all t bs) ≡ first_clash (before ++ b ∷ []) bs) → error_of (seen_all s (b ∷ bs)) ≡ first_clash before (b ∷ bs)
 clash_by s before b bs (clashing e f) r = ap (λ x. error_of (x >>= λ t. seen_all t bs)) e ∙ sym (ap (λ c. first_some (when c (name_clash (bearer_name b)) ∷ first_clash (before ++ b ∷ []) bs ∷ [])) f)
 clash_by s before b bs (fitting t e f h) r =
-    ap (λ x. error_of (x >>= λ u. seen_all u bs)) e ∙ r t h ∙ alone (first_clash (before ++ b ∷ []) bs)
+    ap (λ x. error_of (x >>= λ u. seen_all u bs)) e ∙ r t h ∙ sym (only (first_clash (before ++ b ∷ []) bs))
     ∙ sym (ap (λ c. first_some (when c (name_clash (bearer_name b)) ∷ first_clash (before ++ b ∷ []) bs ∷ [])) f)
 
 clash_is : (bs : List Bearer) (s : Seen) (before : List Bearer) → Knows s before → AllFit before bs → error_of (seen_all s bs) ≡ first_clash before bs

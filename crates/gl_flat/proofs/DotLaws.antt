@@ -3,8 +3,9 @@ use Rattle.std.proofs.Common.{◌≡◌, ℕ, List, [], ◌∷◌, ◌++◌, Boo
 use Rattle.std.specs.Prelude.{◌||◌, ◌&&◌, ◌==◌, codes}
 use Rattle.std.specs.List.{list_any}
 use Rattle.std.proofs.lemmas.List.Folds.{list_any-append}
+use Rattle.gl_fault.proofs.FirstLaws.{only}
 use Rattle.gl_text.specs.LogicalLines.{Fault, name_clash, same_text}
-use Rattle.gl_text.specs.Cards.{first_some, when}
+use Rattle.gl_fault.specs.Refusals.{first_some, when}
 use Rattle.gl_text.specs.Flattening.{Net, Bearer, device, net, net_name, path_text, same_path, clash, first_clash}
 use Rattle.gl_deck.proofs.CallLaws.{exact}
 use Rattle.gl_flat.specs.SeenNames.{has_dot, is_below, may_clash, plain_names}
@@ -86,10 +87,6 @@ same_more xs ys c h b e = list_any-append (clash b) xs (c ∷ []) ∙ ap (λ t. 
 same_plain : (xs ys : List Bearer) (m : Net) → has_dot (net_name m) ≡ false → Same xs ys → Same (xs ++ net m ∷ []) ys
 same_plain xs ys m f h b e = list_any-append (clash b) xs (net m ∷ []) ∙ ap (λ c. list_any (clash b) xs || (c || false)) (others_apart b m e f) ∙ no_more (list_any (clash b) xs) ∙ h b e
 
-alone : (o : Option Fault) → first_some (o ∷ []) ≡ o
-alone None = refl
-alone (Some f) = refl
-
 net_by : (b : Bool) (m : Net) (bs xs ys : List Bearer) → has_dot (net_name m) ≡ b → Same xs ys → ((us vs : List Bearer) → Same us vs → first_clash us bs ≡ first_clash vs (filter may_clash bs))
     → first_clash xs (net m ∷ bs) ≡ first_clash ys (cond b (net m ∷ filter may_clash bs) (filter may_clash bs))
 net_by true m bs xs ys e h r =
@@ -97,7 +94,7 @@ net_by true m bs xs ys e h r =
     ∙ ap (λ o. first_some (when (list_any (clash (net m)) ys) (name_clash (net_name m)) ∷ o ∷ [])) (r (xs ++ net m ∷ []) (ys ++ net m ∷ []) (same_more xs ys (net m) h))
 net_by false m bs xs ys e h r =
     ap (λ c. first_some (when c (name_clash (net_name m)) ∷ first_clash (xs ++ net m ∷ []) bs ∷ [])) (plain_clash m xs e)
-    ∙ alone (first_clash (xs ++ net m ∷ []) bs) ∙ r (xs ++ net m ∷ []) ys (same_plain xs ys m e h)
+    ∙ only (first_clash (xs ++ net m ∷ []) bs) ∙ r (xs ++ net m ∷ []) ys (same_plain xs ys m e h)
 
 passed_by : (bs xs ys : List Bearer) → Same xs ys → first_clash xs bs ≡ first_clash ys (filter may_clash bs)
 passed_by [] xs ys h = refl

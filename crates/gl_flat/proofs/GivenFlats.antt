@@ -1,11 +1,11 @@
 -- What is known where a flat deck is given: it has few devices, and no names clash.
 use Rattle.std.proofs.Common.{◌≡◌, ◌≤◌, ◌+◌, ℕ, List, [], ◌∷◌, ◌++◌, length, map, ltb, false, not, Option, None, Ok, refl, sym, ap, ◌∙◌, subst, flat_map, codes, sum_by, ltb-false}
 use Rattle.gl_text.specs.LogicalLines.{NAME, too_deep, too_many_cards, too_many_devices, long_flat_name, long_text}
-use Rattle.gl_text.specs.Cards.{Head, first_some, when, or_else}
-use Rattle.gl_text.specs.Decks.{◌>>=◌, Body, Sub, Deck, has_twice}
+use Rattle.gl_fault.specs.Refusals.{first_some, when, or_else, ◌>>=◌}
+use Rattle.gl_text.specs.Cards.{Head}
+use Rattle.gl_text.specs.Decks.{Body, Sub, Deck, has_twice}
 use Rattle.gl_text.specs.Flattening.{DEPTH, CARDS, DEVICES, TEXT, FlatDevice, Flat, net, top_net, top_ports, top_place, flat_devices, bearers, bearer_name, device_name, first_clash, chosen, flat_text, flatten, size_of, sizes, one, one_device, at_depth, is_none_left}
-use Rattle.gl_printed.proofs.Refusals.{none_first, when_none, or_else_ok}
-use Rattle.gl_printed.proofs.Reading.{bind_ok}
+use Rattle.gl_fault.proofs.FirstLaws.{none_first, when_none, or_else_ok, bind_ok}
 use Rattle.gl_printed.proofs.FlatAlike.{behind_chosen, faults_flat, finish_flat, flatten_is}
 use Rattle.gl_printed.proofs.FlatClashes.{all_differ_flat}
 use Rattle.gl_flat.specs.Steps.{flat_with}

@@ -4,7 +4,7 @@ use Rattle.std.proofs.lemmas.List.Concat.{flat_map_single}
 use Rattle.std.proofs.lemmas.List.Elements.{filter-append}
 use Rattle.gl_text.specs.LogicalLines.{Fault}
 use Rattle.gl_text.specs.Flattening.{Net, Bearer, net, top_net}
-use Rattle.gl_flat.specs.Refusals.{IsRefusal}
+use Rattle.gl_fault.specs.Refusals.{IsRefusal}
 use Rattle.gl_flat.specs.SeenNames.{Seen, may_clash, seen_all}
 use Rattle.gl_flat.proofs.SeenLaws.{item_added, item_refused}
 

@@ -9,8 +9,9 @@ pub mod KeptLaws
 pub mod LengthLaws
 pub mod LongLaws
 pub mod NumberLaws
-pub mod NumberedTexts
+pub mod FlatKept
 pub mod OneNet
+pub mod PlainLaws
 pub mod PlainNames
 pub mod PrintingLaws
 pub mod SceneLaws

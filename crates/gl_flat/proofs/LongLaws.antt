@@ -1,11 +1,11 @@
 -- Flat names that are too long, looked for device by device.
+use Rattle.gl_fault.specs.Refusals.{first_some}
 use Rattle.std.proofs.Common.{◌≡◌, ◌≤◌, ◌-◌, ℕ, List, [], ◌∷◌, ◌++◌, length, take, drop, get_or, Option, Some, None, refl, sym, ap, ◌∙◌, subst, map, flat_map, arith}
 use Rattle.std.proofs.lemmas.List.{take_all}
 use Rattle.gl_text.specs.LogicalLines.{Fault}
-use Rattle.gl_text.specs.Cards.{first_some}
-use Rattle.gl_text.specs.Flattening.{FlatDevice, Bearer, bearers, bearer_name}
+use Rattle.gl_text.specs.Flattening.{FlatDevice, Bearer, bearers, bearer_name, long_in}
 use Rattle.gl_printed.proofs.Each.{each_right}
-use Rattle.gl_flat.specs.LongNames.{AreCountable, IsCountable, long_in, long_name}
+use Rattle.gl_flat.specs.LongNames.{AreCountable, IsCountable, long_name}
 
 whole : {A : Type 0} (xs : List A) (n : ℕ) → length xs ≤ n → take n xs ≡ xs
 whole xs n e = take_all n xs e

@@ -4,16 +4,17 @@ use Rattle.std.specs.Prelude.{◌&&◌, ◌⊎◌, Contains, codes}
 use Rattle.std.specs.List.{list_any}
 use Rattle.std.proofs.lemmas.Bool.{or_parts, and_from}
 use Rattle.gl_text.specs.LogicalLines.{name_clash, same_text}
-use Rattle.gl_text.specs.Cards.{when}
-use Rattle.gl_text.specs.Flattening.{Net, FlatDevice, Flat, Bearer, net, net_name, top_net, top_ports, bearers, bearer_name, clash, first_clash}
-use Rattle.gl_printed.proofs.Refusals.{none_first, when_none}
+use Rattle.gl_fault.specs.Refusals.{when}
+use Rattle.gl_text.specs.Flattening.{Net, FlatDevice, Flat, Bearer, net, net_name, top_net, top_ports, flat_card, bearers, bearer_name, clash, first_clash}
+use Rattle.gl_fault.proofs.FirstLaws.{none_first, when_none}
 use Rattle.gl_deck.proofs.CallLaws.{itself}
 use Rattle.gl_deck.proofs.Members.{In, in_left, in_right, in_map, in_flat, from_append, from_flat, from_map}
 use Rattle.gl_flat.specs.FlatNets.{all_nets, device_nets}
-use Rattle.gl_flat.specs.Numbered.{nets_of, number_in, name_at}
+use Rattle.gl_base.specs.BaseCircuit.{nets_of, net_number}
+use Rattle.gl_base.specs.Reports.{name_at}
 use Rattle.gl_flat.specs.SeenNames.{same_net}
 use Rattle.gl_flat.proofs.ClashLaws.{nets_exact}
-use Rattle.gl_flat.proofs.NumberedTexts.{name_back}
+use Rattle.gl_flat.proofs.FlatKept.{net_back}
 
 -- ---- bearers that do not clash
 
@@ -107,10 +108,10 @@ one_net flat m n h i j f =
 
 -- and so are two of one number
 pub one_number : (flat : Flat) (m n : Net) → first_clash (map net (map top_net (codes "0" ∷ flat.rails ++ top_ports flat.top))) (flat_map bearers flat.devices) ≡ None
-    → Contains (device_nets flat) m → Contains (device_nets flat) n → number_in (nets_of flat.devices) (net_name m) ≡ number_in (nets_of flat.devices) (net_name n) → m ≡ n
+    → Contains (device_nets flat) m → Contains (device_nets flat) n → net_number (nets_of (map flat_card flat.devices)) (net_name m) ≡ net_number (nets_of (map flat_card flat.devices)) (net_name n) → m ≡ n
 one_number flat m n h i j f =
     let tops = codes "0" ∷ flat.rails ++ top_ports flat.top in
     let ds = flat.devices in
     let a = contained (device_nets flat) m i in
     let b = contained (device_nets flat) n j in
-    one_net_by tops ds m n h (inr a) (inr b) (sym (name_back ds m a) ∙ ap (name_at (nets_of ds)) f ∙ name_back ds n b)
+    one_net_by tops ds m n h (inr a) (inr b) (sym (net_back ds m i) ∙ ap (name_at (nets_of (map flat_card ds))) f ∙ net_back ds n j)

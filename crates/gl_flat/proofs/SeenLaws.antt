@@ -1,31 +1,13 @@
 -- Names that are seen one after the other.
 use Rattle.std.proofs.Common.{◌≡◌, ◌<◌, ◌+◌, ℕ, List, [], ◌∷◌, ◌++◌, length, take, drop, get_or, Option, Some, None, Result, Ok, Err, refl, sym, ap, ◌∙◌, subst, map, flat_map, append-nil}
-use Rattle.std.specs.Prelude.{IfErr}
-use Rattle.std.specs.Result.{IsErrAnd}
 use Rattle.std.proofs.lemmas.Grind.{flat_map-append}
 use Rattle.std.proofs.lemmas.List.{take_more, take-append-drop}
 use Rattle.std.proofs.lemmas.List.Concat.{flat_map_single}
+use Rattle.gl_fault.proofs.AnswerLaws.{through}
 use Rattle.gl_text.specs.LogicalLines.{Fault}
-use Rattle.gl_text.specs.Decks.{◌>>=◌}
+use Rattle.gl_fault.specs.Refusals.{◌>>=◌, IsFound, IsRefusal}
 use Rattle.gl_text.specs.Flattening.{Net, Bearer, net}
-use Rattle.gl_flat.specs.declared.fault.FlatFault.{FlatFault}
-use Rattle.gl_flat.specs.Refusals.{IsFound, IsRefusal, fault_of}
 use Rattle.gl_flat.specs.SeenNames.{Seen, seen_with, seen_all}
-
--- ---- refusals
-
-pub through : {A B : Type 0} (o : Option Fault) (x : Result A Fault) (k : A → Result B Fault) → IsRefusal o x → IsRefusal o (x >>= k)
-through None x k h = tt
-through (Some g) x k h = ap (λ r. r >>= k) h
-
--- an answer that passes a refusal on
-pub passed_on : {V W : Type 0} (r : Result V FlatFault) (f : FlatFault) (w : Result W Fault) → IsErrAnd r (λ e. e ≡ f) → IsRefusal (fault_of f) w → IfErr r (λ e. IsRefusal (fault_of e) w)
-passed_on (Ok v) f w e h = tt
-passed_on {V} {W} (Err g) f w e h = subst (λ x. IsRefusal {V = W} (fault_of x) w) (sym e) h
-
-pub found_on : {V : Type 0} (r : Result V FlatFault) (f : FlatFault) (w : Option Fault) → IsErrAnd r (λ e. e ≡ f) → IsFound (fault_of f) w → IfErr r (λ e. IsFound (fault_of e) w)
-found_on (Ok v) f w e h = tt
-found_on (Err g) f w e h = subst (λ x. IsFound (fault_of x) w) (sym e) h
 
 -- ---- names behind names
 

@@ -11,11 +11,13 @@ use Rattle.std.proofs.lemmas.List.Sums.{fold-append}
 use Rattle.indexmap.specs.IndexMap.{insert_entry}
 use Rattle.indexmap.specs.IndexSet.{insert_key, insert_all}
 use Rattle.gl_text.specs.LogicalLines.{Fault, name_clash, same_text}
-use Rattle.gl_text.specs.Decks.{◌>>=◌, is_in}
+use Rattle.gl_fault.specs.Refusals.{◌>>=◌}
+use Rattle.gl_text.specs.Decks.{is_in, once}
 use Rattle.gl_text.specs.Flattening.{Net, FlatDevice, device, net, net_name, device_name, bearers}
 use Rattle.gl_printed.proofs.Each.{each_left, each_right}
 use Rattle.gl_deck.proofs.GlobalLaws.{all_keys, keys_once}
-use Rattle.gl_flat.specs.Numbered.{NumberedDevice, nets_of, number_in, numbered_device}
+use Rattle.gl_base.specs.BaseCircuit.{net_number}
+use Rattle.gl_flat.specs.Kept.{KeptDevice, kept}
 use Rattle.gl_flat.specs.SeenNames.{Seen, nothing_seen, has_dot, net_names, same_net, takes_top_name, with_device, with_net, seen_with, seen_all}
 use Rattle.gl_flat.proofs.ClashLaws.{none_here, inserted_by, key_by}
 use Rattle.gl_flat.proofs.NumberLaws.{one_more}
@@ -161,46 +163,46 @@ position_below : (p : List ℕ → Bool) (ks : List (List ℕ)) → list_any p k
 position_below p [] h = absurd cc
 position_below p (k ∷ ks) h = below_by (p k) p ks h (position_below p ks)
 
-number_by : (b : Bool) (n x : List ℕ) (ks : List (List ℕ)) → is_in n ks ≡ true → number_in (cond b ks (ks ++ x ∷ [])) n ≡ number_in ks n
+number_by : (b : Bool) (n x : List ℕ) (ks : List (List ℕ)) → is_in n ks ≡ true → net_number (cond b ks (ks ++ x ∷ [])) n ≡ net_number ks n
 number_by true n x ks h = refl
 number_by false n x ks h = position_stays (same_text n) ks (x ∷ []) h
 
-stays : (xs : List (List ℕ)) (n : List ℕ) (ks : List (List ℕ)) → is_in n ks ≡ true → number_in (insert_all same_text ks xs) n ≡ number_in ks n
+stays : (xs : List (List ℕ)) (n : List ℕ) (ks : List (List ℕ)) → is_in n ks ≡ true → net_number (insert_all same_text ks xs) n ≡ net_number ks n
 stays [] n ks h = refl
 stays (x ∷ xs) n ks h = stays xs n (insert_key same_text ks x) (in_more n x ks h) ∙ number_by (is_in x ks) n x ks h
 
-numbers_stay : (ms : List Net) (ks xs : List (List ℕ)) → AllByRecursion (λ n. is_in n ks ≡ true) (map net_name ms) → map (λ m. number_in (insert_all same_text ks xs) (net_name m)) ms ≡ map (λ m. number_in ks (net_name m)) ms
+numbers_stay : (ms : List Net) (ks xs : List (List ℕ)) → AllByRecursion (λ n. is_in n ks ≡ true) (map net_name ms) → map (λ m. net_number (insert_all same_text ks xs) (net_name m)) ms ≡ map (λ m. net_number ks (net_name m)) ms
 numbers_stay [] ks xs h = refl
 numbers_stay (m ∷ ms) ks xs h =
-    ap (λ k. k ∷ map (λ n. number_in (insert_all same_text ks xs) (net_name n)) ms) (stays xs (net_name m) ks h.0) ∙ ap (λ t. number_in ks (net_name m) ∷ t) (numbers_stay ms ks xs h.1)
+    ap (λ k. k ∷ map (λ n. net_number (insert_all same_text ks xs) (net_name n)) ms) (stays xs (net_name m) ks h.0) ∙ ap (λ t. net_number ks (net_name m) ∷ t) (numbers_stay ms ks xs h.1)
 
-abbrev with_nodes : FlatDevice → List ℕ → NumberedDevice
-with_nodes d nodes = record { name = device_name d; nodes = nodes; model = d.card.model; tail = d.card.tail }
+abbrev with_nodes : FlatDevice → List ℕ → KeptDevice
+with_nodes d nodes = record { name = device_name d; nets = nodes; model = d.card.model; tail = d.card.tail }
 
-devices_stay : (ds : List FlatDevice) (ks xs : List (List ℕ)) → AllByRecursion (λ n. is_in n ks ≡ true) (flat_map names ds) → map (numbered_device (insert_all same_text ks xs)) ds ≡ map (numbered_device ks) ds
+devices_stay : (ds : List FlatDevice) (ks xs : List (List ℕ)) → AllByRecursion (λ n. is_in n ks ≡ true) (flat_map names ds) → map (kept (insert_all same_text ks xs)) ds ≡ map (kept ks) ds
 devices_stay [] ks xs h = refl
 devices_stay (d ∷ ds) ks xs h =
-    ap (λ nodes. with_nodes d nodes ∷ map (numbered_device (insert_all same_text ks xs)) ds) (numbers_stay d.nets ks xs (each_left (λ n. is_in n ks ≡ true) (names d) (flat_map names ds) h))
-    ∙ ap (λ t. numbered_device ks d ∷ t) (devices_stay ds ks xs (each_right (λ n. is_in n ks ≡ true) (names d) (flat_map names ds) h))
+    ap (λ nodes. with_nodes d nodes ∷ map (kept (insert_all same_text ks xs)) ds) (numbers_stay d.nets ks xs (each_left (λ n. is_in n ks ≡ true) (names d) (flat_map names ds) h))
+    ∙ ap (λ t. kept ks d ∷ t) (devices_stay ds ks xs (each_right (λ n. is_in n ks ≡ true) (names d) (flat_map names ds) h))
 
 -- ---- one net more, and one device more
 
 pub net_numbered : (s t u : Seen) (ms : List Net) (i : ℕ) (m : Net) (old new : List ℕ) (k : ℕ) → i < length ms → m ≡ get_or ms i m → seen_all s (map net (take i ms)) ≡ Ok t → seen_all t (net m ∷ []) ≡ Ok u
-    → old ≡ map (λ n. number_in (net_names t) (net_name n)) (take i ms) → new ≡ old ++ k ∷ [] → k ≡ number_in (net_names u) (net_name m) → new ≡ map (λ n. number_in (net_names u) (net_name n)) (take (i + 1) ms)
+    → old ≡ map (λ n. net_number (net_names t) (net_name n)) (take i ms) → new ≡ old ++ k ∷ [] → k ≡ net_number (net_names u) (net_name m) → new ≡ map (λ n. net_number (net_names u) (net_name n)) (take (i + 1) ms)
 net_numbered s t u ms i m old new k lt e f g o h w =
-    let number : List (List ℕ) → Net → ℕ = λ (ks : List (List ℕ)) (n : Net). number_in ks (net_name n) in
+    let number : List (List ℕ) → Net → ℕ = λ (ks : List (List ℕ)) (n : Net). net_number ks (net_name n) in
     let fronts : net_names t ≡ insert_all same_text (net_names s) (map net_name (take i ms)) = nets_named (take i ms) s t f in
     let all = subst (λ (ks : List (List ℕ)). AllByRecursion (λ n. is_in n ks ≡ true) (map net_name (take i ms))) (sym fronts) (all_in (map net_name (take i ms)) (net_names s)) in
     let stay : map (number (net_names u)) (take i ms) ≡ map (number (net_names t)) (take i ms) = ap (λ ks. map (number ks) (take i ms)) (net_named t u m g) ∙ numbers_stay (take i ms) (net_names t) (net_name m ∷ []) all in
     one_more (number (net_names u)) ms i m old new k lt e (o ∙ sym stay) h w
 
-pub device_numbered : (s t u : Seen) (ds : List FlatDevice) (i : ℕ) (d : FlatDevice) (old new : List NumberedDevice) (k : NumberedDevice) → i < length ds → d ≡ get_or ds i d
-    → seen_all s (flat_map bearers (take i ds)) ≡ Ok t → seen_all t (bearers d) ≡ Ok u → old ≡ map (numbered_device (net_names t)) (take i ds) → new ≡ old ++ k ∷ [] → k ≡ numbered_device (net_names u) d → new ≡ map (numbered_device (net_names u)) (take (i + 1) ds)
+pub device_numbered : (s t u : Seen) (ds : List FlatDevice) (i : ℕ) (d : FlatDevice) (old new : List KeptDevice) (k : KeptDevice) → i < length ds → d ≡ get_or ds i d
+    → seen_all s (flat_map bearers (take i ds)) ≡ Ok t → seen_all t (bearers d) ≡ Ok u → old ≡ map (kept (net_names t)) (take i ds) → new ≡ old ++ k ∷ [] → k ≡ kept (net_names u) d → new ≡ map (kept (net_names u)) (take (i + 1) ds)
 device_numbered s t u ds i d old new k lt e f g o h w =
     let fronts : net_names t ≡ insert_all same_text (net_names s) (flat_map names (take i ds)) = devices_named (take i ds) s t f in
     let all = subst (λ (ks : List (List ℕ)). AllByRecursion (λ n. is_in n ks ≡ true) (flat_map names (take i ds))) (sym fronts) (all_in (flat_map names (take i ds)) (net_names s)) in
-    let stay : map (numbered_device (net_names u)) (take i ds) ≡ map (numbered_device (net_names t)) (take i ds) = ap (λ ks. map (numbered_device ks) (take i ds)) (bearers_named d t u g) ∙ devices_stay (take i ds) (net_names t) (names d) all in
-    one_more (numbered_device (net_names u)) ds i d old new k lt e (o ∙ sym stay) h w
+    let stay : map (kept (net_names u)) (take i ds) ≡ map (kept (net_names t)) (take i ds) = ap (λ ks. map (kept ks) (take i ds)) (bearers_named d t u g) ∙ devices_stay (take i ds) (net_names t) (names d) all in
+    one_more (kept (net_names u)) ds i d old new k lt e (o ∙ sym stay) h w
 
 -- ---- numbers fit
 
@@ -214,7 +216,7 @@ front_fits ks xs ys h =
     omega (arith, a, b, h)
 
 -- the number of a net that was added
-pub number_fits : (s u : Seen) (m : Net) (k : ℕ) → length (insert_all same_text (net_names s) (net_name m ∷ [])) < 2 ^ 32 → seen_all s (net m ∷ []) ≡ Ok u → k ≡ number_in (net_names u) (net_name m) → k < 2 ^ 32
+pub number_fits : (s u : Seen) (m : Net) (k : ℕ) → length (insert_all same_text (net_names s) (net_name m ∷ [])) < 2 ^ 32 → seen_all s (net m ∷ []) ≡ Ok u → k ≡ net_number (net_names u) (net_name m) → k < 2 ^ 32
 number_fits s u m k h e w =
     let named = net_named s u m e in
     let l = position_below (same_text (net_name m)) (net_names u) (ap (is_in (net_name m)) named ∙ there (net_name m) (net_names s)) in
@@ -252,11 +254,11 @@ position_after : (p : List ℕ → Bool) (ks : List (List ℕ)) (n : List ℕ) �
 position_after p [] n e h = ap (λ b. cond (not b) 1 0) e
 position_after p (k ∷ ks) n e h = after_by (p k) p ks n h (position_after p ks n e)
 
-pub number_new : (es more : List (List ℕ × Net)) (n : List ℕ) (v : Net) (k : ℕ) → k ≡ length es → lookup (same_text n) es ≡ None → more ≡ insert_entry same_text es n v → k ≡ number_in (map key more) n
+pub number_new : (es more : List (List ℕ × Net)) (n : List ℕ) (v : Net) (k : ℕ) → k ≡ length es → lookup (same_text n) es ≡ None → more ≡ insert_entry same_text es n v → k ≡ net_number (map key more) n
 number_new es more n v k l none h =
     let named = ap (map key) h ∙ keys_new n v es none in
-    l ∙ sym (length-map es key) ∙ sym (position_after (same_text n) (map key es) n (nat_list_eq_equiv.refl n) (lookup_has n es None none)) ∙ ap (λ ks. number_in ks n) (sym named)
+    l ∙ sym (length-map es key) ∙ sym (position_after (same_text n) (map key es) n (nat_list_eq_equiv.refl n) (lookup_has n es None none)) ∙ ap (λ ks. net_number ks n) (sym named)
 
 -- the names behind those of the top are those of the devices' nets
-pub names_of_all : (s u : Seen) (tops : List (List ℕ)) (ds : List FlatDevice) → s ≡ nothing_seen tops → seen_all s (flat_map bearers ds) ≡ Ok u → net_names u ≡ nets_of ds
+pub names_of_all : (s u : Seen) (tops : List (List ℕ)) (ds : List FlatDevice) → s ≡ nothing_seen tops → seen_all s (flat_map bearers ds) ≡ Ok u → net_names u ≡ once (flat_map names ds)
 names_of_all s u tops ds e f = devices_named ds s u f ∙ ap (λ t. insert_all same_text (net_names t) (flat_map names ds)) e ∙ keys_once (flat_map names ds)

@@ -1,17 +1,18 @@
 -- Flattening, put together from its steps.
+use Rattle.gl_fault.specs.Refusals.{when, or_else, ◌>>=◌, IsFound, IsRefusal}
 use Rattle.std.proofs.Common.{◌≡◌, ◌≤◌, ◌<◌, ◌+◌, ℕ, List, length, Bool, true, false, ltb, Option, Some, None, Result, Ok, Err, refl, sym, ap, ◌∙◌, subst, arith}
 use Rattle.std.specs.Prelude.{OnOk, IfOk, IfErr}
 use Rattle.std.specs.Result.{IsErrAnd}
 use Rattle.std.proofs.lemmas.Bool.{ltb-true, ltb-false, lt-ltb}
+use Rattle.gl_fault.proofs.AnswerLaws.{through, refused_by}
 use Rattle.gl_text.specs.LogicalLines.{Fault, long_text}
-use Rattle.gl_text.specs.Cards.{Head, when, or_else}
-use Rattle.gl_text.specs.Decks.{◌>>=◌, Body, Sub, Deck}
-use Rattle.gl_text.specs.Flattening.{DEPTH, TEXT, FlatDevice, Flat, flat_devices, flat_text, flatten, chosen, top_place}
+use Rattle.gl_text.specs.Cards.{Head}
+use Rattle.gl_text.specs.Decks.{Body, Sub, Deck}
+use Rattle.gl_text.specs.Flattening.{DEPTH, TEXT, FlatDevice, Flat, flat_devices, flat_text, flatten, chosen, top_place, excess_in, text_fault}
 use Rattle.gl_flat.specs.declared.fault.FlatFault.{FlatFault}
-use Rattle.gl_flat.specs.declared.fault.FlatFault.TheVariants as faults
 use Rattle.gl_flat.specs.Lengths.{after}
-use Rattle.gl_flat.specs.Refusals.{GivesOf, IsFound, IsRefusal, fault_of}
-use Rattle.gl_flat.specs.Steps.{excess_in, text_fault, checked, judged, stepwise}
+use Rattle.gl_flat.specs.Refusals.{GivesOf, fault_of}
+use Rattle.gl_flat.specs.Steps.{checked, judged, stepwise}
 
 -- ---- the text's length
 
@@ -34,35 +35,17 @@ too_long f n e h = ap (λ b. when b (long_text (TEXT + 1))) (lt-ltb TEXT (length
 
 -- ---- refusals
 
-refuses : (o w : Option Fault) (f : Flat) (k : Flat → Result Flat Fault) → IsFound o w → IsRefusal o (or_else w f >>= k)
-refuses None w f k h = tt
-refuses (Some g) w f k h = ap (λ v. or_else v f >>= k) h
-
--- a refusal that is told exactly is found
-pub found_exact : (o w : Option Fault) → o ≡ w → IsFound o w
-found_exact None w e = tt
-found_exact (Some g) w e = sym e
-
 pub first_refuses : (o : Option Fault) (f : Flat) (a b c : Option Fault) → IsFound o a → IsRefusal o (checked f a b c)
-first_refuses o f a b c h = refuses o a f (λ g. or_else b g >>= λ x. or_else c x) h
+first_refuses o f a b c h = through o (or_else a f) (λ g. or_else b g >>= λ x. or_else c x) (refused_by o a f h)
 
 pub second_refuses : (o : Option Fault) (f : Flat) (a b c : Option Fault) → a ≡ None → IsFound o b → IsRefusal o (checked f a b c)
-second_refuses o f a b c e h = subst (λ v. IsRefusal o (checked f v b c)) (sym e) (refuses o b f (λ x. or_else c x) h)
-
-last_by : (o w : Option Fault) (f : Flat) → IsFound o w → IsRefusal o (or_else w f)
-last_by None w f h = tt
-last_by (Some g) w f h = ap (λ v. or_else v f) h
+second_refuses o f a b c e h = subst (λ v. IsRefusal o (checked f v b c)) (sym e) (through o (or_else b f) (λ x. or_else c x) (refused_by o b f h))
 
 pub third_refuses : (o : Option Fault) (f : Flat) (a b c : Option Fault) → a ≡ None → b ≡ None → IsFound o c → IsRefusal o (checked f a b c)
-third_refuses o f a b c e g h = subst (λ v. IsRefusal o (checked f v b c)) (sym e) (subst (λ v. IsRefusal o (checked f None v c)) (sym g) (last_by o c f h))
+third_refuses o f a b c e g h = subst (λ v. IsRefusal o (checked f v b c)) (sym e) (subst (λ v. IsRefusal o (checked f None v c)) (sym g) (refused_by o c f h))
 
 pub none_refuses : (f : Flat) (a b c : Option Fault) → a ≡ None → b ≡ None → c ≡ None → checked f a b c ≡ Ok f
 none_refuses f a b c e g h = ap (λ v. checked f v b c) e ∙ ap (λ v. checked f None v c) g ∙ ap (λ v. checked f None None v) h
-
--- an answer that passes a refusal on
-pub gives_refusal : {V : Type 0} (M : V → Flat → Type 0) (r : Result V FlatFault) (f : FlatFault) (w : Result Flat Fault) → IsErrAnd r (λ e. e ≡ f) → IsRefusal (fault_of f) w → GivesOf M r w
-gives_refusal M (Ok v) f w e h = absurd e
-gives_refusal M (Err g) f w e h = subst (λ x. IsRefusal (fault_of x) w) (sym e) h
 
 -- a flat deck that only a clash can refuse
 pub clash_decides : {V : Type 0} (M : V → Flat → Type 0) (r : Result V FlatFault) (f : Flat) (a b c : Option Fault) → a ≡ None → b ≡ None → OnOk r (c ≡ None) → IfOk r (λ v. M v f) → IfErr r (λ e. IsFound (fault_of e) c) → GivesOf M r (checked f a b c)
@@ -81,27 +64,18 @@ picked head cards = (head, cards)
 pub steps_are : (deck : Deck) (rails : List (List ℕ)) (top : Option (List ℕ)) → stepwise deck rails top ≡ flatten deck rails top
 steps_are deck rails top = refl
 
-choice_by : (o : Option Fault) (deck : Deck) (rails : List (List ℕ)) (x : Result (Option Head × List Body) Fault) → IsRefusal o x
-    → IsRefusal o (x >>= λ c. or_else (excess_in deck.subs c.1) c >>= λ c. judged deck rails c.0 (flat_devices rails deck.subs DEPTH top_place c.1))
-choice_by None deck rails x h = tt
-choice_by (Some g) deck rails x h = ap (λ v. v >>= λ c. or_else (excess_in deck.subs c.1) c >>= λ c. judged deck rails c.0 (flat_devices rails deck.subs DEPTH top_place c.1)) h
-
 -- nothing is chosen
 pub choice_refuses : (o : Option Fault) (deck : Deck) (rails : List (List ℕ)) (top : Option (List ℕ)) → IsRefusal o (chosen deck top) → IsRefusal o (flatten deck rails top)
-choice_refuses o deck rails top h = choice_by o deck rails (chosen deck top) h
+choice_refuses o deck rails top h = through o (chosen deck top) (λ c. or_else (excess_in deck.subs c.1) c >>= λ c. judged deck rails c.0 (flat_devices rails deck.subs DEPTH top_place c.1)) h
 
 -- what was chosen exceeds
 chosen_is : (deck : Deck) (rails : List (List ℕ)) (top : Option (List ℕ)) (head : Option Head) (cards : List Body) → chosen deck top ≡ Ok (head, cards)
     → (or_else (excess_in deck.subs cards) (picked head cards) >>= λ c. judged deck rails c.0 (flat_devices rails deck.subs DEPTH top_place c.1)) ≡ flatten deck rails top
 chosen_is deck rails top head cards e = sym (ap (λ v. v >>= λ c. or_else (excess_in deck.subs c.1) c >>= λ c. judged deck rails c.0 (flat_devices rails deck.subs DEPTH top_place c.1)) e)
 
-excess_by : (o w : Option Fault) (deck : Deck) (rails : List (List ℕ)) (head : Option Head) (cards : List Body) → IsFound o w
-    → IsRefusal o (or_else w (picked head cards) >>= λ c. judged deck rails c.0 (flat_devices rails deck.subs DEPTH top_place c.1))
-excess_by None w deck rails head cards h = tt
-excess_by (Some g) w deck rails head cards h = ap (λ v. or_else v (picked head cards) >>= λ c. judged deck rails c.0 (flat_devices rails deck.subs DEPTH top_place c.1)) h
-
 pub excess_refuses : (o : Option Fault) (deck : Deck) (rails : List (List ℕ)) (top : Option (List ℕ)) (head : Option Head) (cards : List Body) → chosen deck top ≡ Ok (head, cards) → IsFound o (excess_in deck.subs cards) → IsRefusal o (flatten deck rails top)
-excess_refuses o deck rails top head cards e h = subst (λ v. IsRefusal o v) (chosen_is deck rails top head cards e) (excess_by o (excess_in deck.subs cards) deck rails head cards h)
+excess_refuses o deck rails top head cards e h = subst (λ v. IsRefusal o v) (chosen_is deck rails top head cards e)
+    (through o (or_else (excess_in deck.subs cards) (picked head cards)) (λ c. judged deck rails c.0 (flat_devices rails deck.subs DEPTH top_place c.1)) (refused_by o (excess_in deck.subs cards) (picked head cards) h))
 
 -- or it is judged
 pub judged_is : (deck : Deck) (rails : List (List ℕ)) (top : Option (List ℕ)) (head : Option Head) (cards : List Body) (devices : List FlatDevice) → chosen deck top ≡ Ok (head, cards) → excess_in deck.subs cards ≡ None
@@ -112,11 +86,6 @@ judged_is deck rails top head cards devices e f g =
 -- the devices of the same cards, by the same subcircuits and rails
 pub same_devices : (n : ℕ) (k rails : List (List ℕ)) (s t : List Sub) (cards : List Body) → k ≡ rails → s ≡ t → flat_devices k s n top_place cards ≡ flat_devices rails t n top_place cards
 same_devices n k rails s t cards e f = ap (λ x. flat_devices x s n top_place cards) e ∙ ap (λ x. flat_devices rails x n top_place cards) f
-
--- want of memory may come in place of any answer
-pub no_memory : {V : Type 0} (M : V → Flat → Type 0) (r : Result V FlatFault) (w : Result Flat Fault) → IsErrAnd r (λ e. e ≡ faults.Memory) → GivesOf M r w
-no_memory M (Ok v) w e = absurd e
-no_memory M (Err g) w e = subst (λ x. IsRefusal (fault_of x) w) (sym e) tt
 
 -- an answer that passes a refusal on, whatever the rails
 pub refused_on : {V : Type 0} (r : Result V FlatFault) (f : FlatFault) (deck : Deck) (top : Option (List ℕ)) → IsErrAnd r (λ e. e ≡ f) → ((rails : List (List ℕ)) → IsRefusal (fault_of f) (flatten deck rails top))

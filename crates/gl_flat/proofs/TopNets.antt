@@ -4,8 +4,8 @@ use Rattle.std.proofs.lemmas.List.{get_or-map, take-map, length-map}
 use Rattle.indexmap.specs.IndexSet.{insert_all}
 use Rattle.gl_text.specs.LogicalLines.{Fault, same_text}
 use Rattle.gl_text.specs.Flattening.{Net, net, net_name, top_net}
-use Rattle.gl_flat.specs.Numbered.{number_in}
-use Rattle.gl_flat.specs.Refusals.{IsRefusal}
+use Rattle.gl_base.specs.BaseCircuit.{net_number}
+use Rattle.gl_fault.specs.Refusals.{IsRefusal}
 use Rattle.gl_flat.specs.SeenNames.{Seen, net_names, seen_all}
 use Rattle.gl_flat.proofs.SeenLaws.{net_added, net_refused}
 use Rattle.gl_flat.proofs.SeenNumbers.{net_numbered, net_fits}
@@ -34,10 +34,10 @@ top_refused o names i name m s t lt is e g h =
 
 -- its number
 pub top_numbered : (s t u : Seen) (names : List (List ℕ)) (i : ℕ) (name : List ℕ) (m : Net) (old new : List ℕ) (k : ℕ) → i < length names → name ≡ get_or names i name → m ≡ top_net name
-    → seen_all s (map net (map top_net (take i names))) ≡ Ok t → seen_all t (net m ∷ []) ≡ Ok u → old ≡ map (λ n. number_in (net_names t) (net_name n)) (map top_net (take i names)) → new ≡ old ++ k ∷ []
-    → k ≡ number_in (net_names u) (net_name m) → new ≡ map (λ n. number_in (net_names u) (net_name n)) (map top_net (take (i + 1) names))
+    → seen_all s (map net (map top_net (take i names))) ≡ Ok t → seen_all t (net m ∷ []) ≡ Ok u → old ≡ map (λ n. net_number (net_names t) (net_name n)) (map top_net (take i names)) → new ≡ old ++ k ∷ []
+    → k ≡ net_number (net_names u) (net_name m) → new ≡ map (λ n. net_number (net_names u) (net_name n)) (map top_net (take (i + 1) names))
 top_numbered s t u names i name m old new k lt is e f g o h w =
-    let number : Seen → List Net → List ℕ = λ (v : Seen) (ms : List Net). map (λ n. number_in (net_names v) (net_name n)) ms in
+    let number : Seen → List Net → List ℕ = λ (v : Seen) (ms : List Net). map (λ n. net_number (net_names v) (net_name n)) ms in
     net_numbered s t u (map top_net names) i m old new k (below names i lt) (at_top names i name m lt is e) (ap (λ ms. seen_all s (map net ms)) (sym (taken names i)) ∙ f) g (o ∙ ap (number t) (taken names i)) h w
     ∙ ap (number u) (sym (taken names (i + 1)))
 

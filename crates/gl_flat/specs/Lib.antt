@@ -1,8 +1,9 @@
 pub mod FlatNets
 pub mod Lengths
 pub mod LongNames
-pub mod Numbered
-pub mod Reached
+pub mod PlainFlats
+pub mod Kept
+pub mod Devices
 pub mod Refusals
 pub mod SeenNames
 pub mod TopNames

@@ -1,9 +1,10 @@
 -- What a refusal of the code means, and what flattening gives.
-use Rattle.std.specs.Prelude.{◌≡◌, ℕ, List, Option, Some, None, Result, Ok, Err, ⊤}
+use Rattle.std.specs.Prelude.{◌≡◌, ℕ, List, Option, Some, None, Result}
+use Rattle.gl_fault.specs.Refusals as answers
 use Rattle.gl_text.specs.LogicalLines as lines
 use Rattle.gl_text.specs.LogicalLines.{Fault}
 use Rattle.gl_text.specs.Flattening.{Flat, flat_text}
-use Rattle.gl_flat.specs.Numbered.{Numbered, numbered}
+use Rattle.gl_flat.specs.PlainFlats.{plain}
 use Rattle.gl_flat.specs.declared.fault.What.{What}
 use Rattle.gl_flat.specs.declared.fault.What.TheVariants as what
 use Rattle.gl_flat.specs.declared.fault.FlatFault.{FlatFault}
@@ -24,24 +25,13 @@ fault_of (faults.TopDevices line) = Some (lines.top_devices line)
 fault_of (faults.LongText number) = Some (lines.long_text number)
 fault_of faults.Memory = None
 
--- the refusal that was given is this one; want of memory may come in place of any answer
-abbrev pub IsRefusal : {V : Type 0} → Option Fault → Result V Fault → Type 0
-IsRefusal None wanted = ⊤
-IsRefusal (Some fault) wanted = wanted ≡ Err fault
-
--- the refusal that was given is the one that there is
-abbrev pub IsFound : Option Fault → Option Fault → Type 0
-IsFound None found = ⊤
-IsFound (Some fault) found = found ≡ Some fault
-
 -- what is made of a flat deck, exactly where there is one; else the refusal; want of memory may come in place of either
 abbrev pub GivesOf : {V : Type 0} → (V → Flat → Type 0) → Result V FlatFault → Result Flat Fault → Type 0
-GivesOf IsMade (Ok v) wanted = (w : Flat) × (wanted ≡ Ok w) × IsMade v w
-GivesOf IsMade (Err fault) wanted = IsRefusal (fault_of fault) wanted
+GivesOf = answers.GivesOf fault_of
 
--- a flat deck, numbered
-abbrev pub Gives : Result Numbered FlatFault → Result Flat Fault → Type 0
-Gives = GivesOf (λ v w. v ≡ numbered w)
+-- a flat deck, each device under its flat name and with the flat names of its nets
+abbrev pub Gives : Result Flat FlatFault → Result Flat Fault → Type 0
+Gives = GivesOf (λ v w. v ≡ plain w)
 
 -- the text is that of a flat deck
 abbrev pub IsTextOf : List ℕ → Flat → Type 0

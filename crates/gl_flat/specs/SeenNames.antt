@@ -5,7 +5,8 @@ use Rattle.std.specs.Map.{lookup}
 use Rattle.indexmap.specs.IndexMap.{insert_entry}
 use Rattle.indexmap.specs.IndexSet.{insert_key}
 use Rattle.gl_text.specs.LogicalLines.{Fault, name_clash, same_text}
-use Rattle.gl_text.specs.Decks.{◌>>=◌, is_in}
+use Rattle.gl_fault.specs.Refusals.{◌>>=◌}
+use Rattle.gl_text.specs.Decks.{is_in}
 use Rattle.gl_text.specs.Flattening.{Net, FlatDevice, Bearer, device, net, net_name, bearers, same_path}
 use Rattle.gl_printed.specs.ReadDecks.{AllDiffer}
 

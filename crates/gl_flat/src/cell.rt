@@ -1,36 +1,35 @@
 ghost use Rattle.std.specs.Prelude.{◌≡◌, None, map, option_map, IfOk};
 ghost use Rattle.indexmap.specs.IndexMap.{keys, values};
 ghost use Rattle.gl_text.specs.LogicalLines.{name_clash};
-ghost use Rattle.gl_text.specs.Flattening.{DEPTH as MOST_CALLS, flat_devices, top_place};
+ghost use Rattle.gl_text.specs.Flattening.{DEPTH as MOST_CALLS, flat_devices, top_place, clash_in};
 ghost use Rattle.gl_printed.specs.ReadDecks.{AllDiffer, body_name};
 ghost use Rattle.gl_deck.specs.Bodies.{names_of};
 ghost use Rattle.gl_flat.specs.SeenNames.{PlainDiffer};
-ghost use Rattle.gl_flat.specs.Steps.{clash_in};
 ghost use Rattle.gl_flat.specs.TopNames.{clash_among as clash_of};
 ghost use Rattle.gl_flat.specs.Ways.{IsScene, PortsDiffer};
 
 use crate::clash::refuse_clash;
+use crate::device::FlatDevice;
 use crate::flattening::expanded;
-use crate::reached::Reached;
 use crate::scene::Scene;
 use crate::tables::Tables;
-use crate::{FlatFault, Name, Sub};
+use crate::{FlatFault, Memory, Name, Sub};
 use indexmap::IndexMap;
-use std::alloc::{AllocError, Global};
+use std::alloc::Global;
 
 /// The first name that clashes among devices; every other refusal there is want of memory.
 fn clash_among<'a>(
     alloc: Global,
     scene: &Scene<'a>,
-    devices: &[Reached<'a>],
-) -> Result<Option<Name>, AllocError>
+    devices: &[FlatDevice<'a>],
+) -> Result<Option<Name>, Memory>
     requires plain { PlainDiffer devices.now }
     ensures clash { IfOk result (λ name. option_map name_clash name ≡ clash_of scene.now devices.now) }
 {
     match refuse_clash(alloc, scene, devices) {
         Ok(()) => Ok(None),
         Err(FlatFault::NameClash { name }) => Ok(Some(name)),
-        Err(_) => Err(AllocError),
+        Err(_) => Err(Memory),
     }
 }
 
@@ -39,7 +38,7 @@ fn clash_of_cell<'a>(
     alloc: Global,
     scene: &Scene<'a>,
     cell: &'a Sub,
-) -> Result<Option<Name>, AllocError>
+) -> Result<Option<Name>, Memory>
     requires scene { IsScene scene.now }
     requires names { AllDiffer (map body_name cell.now.cards) }
     ensures clash { IfOk result (λ name. option_map name_clash name ≡ clash_of scene.now (flat_devices scene.now.rails.now.keys (values scene.now.subs.now) MOST_CALLS top_place cell.now.cards)) }
@@ -57,7 +56,7 @@ pub fn first_clash(
     subs: &IndexMap<Name, Sub>,
     rails: &[Name],
     cell: &Sub,
-) -> Result<Option<Name>, AllocError>
+) -> Result<Option<Name>, Memory>
     requires keyed { keys subs.now ≡ names_of (values subs.now) }
     requires ports { PortsDiffer (values subs.now) }
     requires rails { AllDiffer rails.now }

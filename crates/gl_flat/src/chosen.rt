@@ -2,7 +2,8 @@ ghost use Rattle.std.specs.Prelude.{◌≡◌, Some, Ok, IfOk, IfErr};
 ghost use Rattle.std.specs.Option.{option_copied};
 ghost use Rattle.gl_text.specs.Flattening as flat;
 ghost use Rattle.gl_deck.specs.Bodies.{bodies_value};
-ghost use Rattle.gl_flat.specs.Refusals.{IsRefusal, fault_of};
+ghost use Rattle.gl_fault.specs.Refusals.{IsRefusal};
+ghost use Rattle.gl_flat.specs.Refusals.{fault_of};
 
 use crate::copy::name_copy;
 use crate::{Body, Deck, FlatFault, Head, Name};

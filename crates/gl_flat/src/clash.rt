@@ -1,10 +1,11 @@
 ghost use Rattle.std.specs.Prelude.{◌≡◌, None, OnOk, IfErr};
-ghost use Rattle.gl_flat.specs.Refusals.{IsFound, fault_of};
+ghost use Rattle.gl_fault.specs.Refusals.{IsFound};
+ghost use Rattle.gl_flat.specs.Refusals.{fault_of};
 ghost use Rattle.gl_flat.specs.SeenNames.{PlainDiffer};
 ghost use Rattle.gl_flat.specs.TopNames.{clash_among as clash_of};
 
 use crate::FlatFault;
-use crate::reached::Reached;
+use crate::device::FlatDevice;
 use crate::scene::Scene;
 use crate::seen::Seen;
 use std::alloc::Global;
@@ -14,7 +15,7 @@ use std::alloc::Global;
 pub fn refuse_clash<'a>(
     alloc: Global,
     scene: &Scene<'a>,
-    devices: &[Reached<'a>],
+    devices: &[FlatDevice<'a>],
 ) -> Result<(), FlatFault>
     requires plain { PlainDiffer devices.now }
     ensures ok { OnOk result (clash_of scene.now devices.now ≡ None) }

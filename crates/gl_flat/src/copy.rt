@@ -8,7 +8,7 @@ use std::alloc::{AllocError, Global};
 pub fn name_copy(alloc: Global, name: &Name) -> Result<Name, AllocError>
     ensures copy { IfOk result (λ copy. copy ≡ name.now) }
 {
-    Name::of(alloc, name.as_bytes())
+    Ok(Name::of(alloc, name.as_bytes())?)
 }
 
 /// A copy of names.
@@ -36,9 +36,7 @@ pub fn option_copy(alloc: Global, name: Option<&Name>) -> Result<Option<Name>, A
 pub fn tail_copy(alloc: Global, tail: &Tail) -> Result<Tail, AllocError>
     ensures copy { IfOk result (λ copy. copy ≡ tail.now) }
 {
-    Ok(Tail {
-        bytes: Vec::from_slice(alloc, tail.as_bytes())?,
-    })
+    Ok(Tail::of(alloc, tail.as_bytes())?)
 }
 
 /// A copy of a model.

@@ -5,7 +5,7 @@ ghost use Rattle.gl_text.specs.Flattening as flat;
 ghost use Rattle.gl_deck.specs.Bodies.{bodies_value};
 ghost use Rattle.gl_flat.specs.Ways.{IsScene, place_of};
 
-use crate::reached::Reached;
+use crate::device::FlatDevice;
 use crate::scene::{Scene, find};
 use crate::step::Step;
 use crate::way::{device_at, longer};
@@ -20,7 +20,7 @@ fn expand_call<'a>(
     depth: usize,
     way: &[Step<'a>],
     call: &'a CallCard,
-    out: &mut Vec<Reached<'a>>,
+    out: &mut Vec<FlatDevice<'a>>,
 ) -> Result<(), AllocError>
     requires scene { IsScene scene.now }
     ensures ok { OnOk result (out.new.items ≡ out.old.items ++ flat.flat_devices scene.now.rails.now.keys (values scene.now.subs.now) depth (place_of scene.now.rails.now.keys way.now) (decks.call_at 0 call.now ∷ [])) }
@@ -47,7 +47,7 @@ fn expand_card<'a>(
     depth: usize,
     way: &[Step<'a>],
     card: &'a Body,
-    out: &mut Vec<Reached<'a>>,
+    out: &mut Vec<FlatDevice<'a>>,
 ) -> Result<(), AllocError>
     requires scene { IsScene scene.now }
     ensures ok { OnOk result (out.new.items ≡ out.old.items ++ flat.flat_devices scene.now.rails.now.keys (values scene.now.subs.now) depth (place_of scene.now.rails.now.keys way.now) (bodies_value (card.now ∷ []))) }
@@ -69,7 +69,7 @@ pub fn expand<'a>(
     depth: usize,
     way: &[Step<'a>],
     cards: &'a [Body],
-    out: &mut Vec<Reached<'a>>,
+    out: &mut Vec<FlatDevice<'a>>,
 ) -> Result<(), AllocError>
     requires scene { IsScene scene.now }
     ensures ok { OnOk result (out.new.items ≡ out.old.items ++ flat.flat_devices scene.now.rails.now.keys (values scene.now.subs.now) depth (place_of scene.now.rails.now.keys way.now) (bodies_value cards.now)) }

@@ -1,39 +1,41 @@
 ghost use Rattle.std.specs.Prelude.{◌≡◌, map};
 ghost use Rattle.std.specs.Option.{option_copied};
+ghost use Rattle.gl_text.specs.Cards.{first_byte};
+ghost use Rattle.gl_text.specs.Flattening.{device_name};
+ghost use Rattle.gl_card.specs.Letters.{byte_of};
+ghost use Rattle.gl_base.specs.BaseCircuit.{nets_of};
+ghost use Rattle.gl_base.specs.Rounds.{cards_of};
+ghost use Rattle.gl_flat.specs.Kept.{KeptDevice as Kept, kept_device};
 
+use crate::names::Names;
 use crate::{Head, Letter, ModelCard, Name, Tail};
 use std::marker::Model;
 
-/// A device of a flat deck. Contracts see it as its name, the numbers of its nets, model and tail; the letter is the name's
-/// first byte.
+/// A device of a flat deck as it is kept. Contracts see it as its flat name, the numbers of its nets, model and tail; the
+/// letter is the name's first byte.
 #[derive(Debug, Drop)]
-pub struct FlatDevice {
-    /// Its flat name.
-    pub name: Name,
-    /// The letter of its card.
-    pub letter: Letter,
-    /// Its nets, place by place, by their numbers from 0 in the flat deck's list.
-    pub nodes: Vec<u32>,
-    /// The model's name, where the letter is M or D.
-    pub model: Option<Name>,
-    /// What follows.
-    pub tail: Tail,
+pub struct KeptDevice {
+    pub(crate) name: Name,
+    pub(crate) letter: Letter,
+    pub(crate) nets: Vec<u32>,
+    pub(crate) model: Option<Name>,
+    pub(crate) tail: Tail,
 }
 
-impl Model for FlatDevice {
+impl Model for KeptDevice {
     ghost use Rattle.std.specs.Prelude.{◌≡◌};
     ghost use Rattle.gl_text.specs.Cards.{first_byte};
     ghost use Rattle.gl_card.specs.Letters.{byte_of};
-    ghost use Rattle.gl_flat.specs.Numbered.{NumberedDevice};
+    ghost use Rattle.gl_flat.specs.Kept.{KeptDevice as Kept};
 
-    ghost Value = { NumberedDevice };
+    ghost Value = { Kept };
 
-    ghost view = { λ d. record { name = d.name; nodes = d.nodes.items; model = d.model; tail = d.tail } };
+    ghost view = { λ d. record { name = d.name; nets = d.nets.items; model = d.model; tail = d.tail } };
 
     ghost invariant = { λ d. first_byte d.name ≡ byte_of d.letter };
 }
 
-impl FlatDevice {
+impl KeptDevice {
     /// Its flat name.
     pub fn name(&self) -> &Name
         ensures name { result.now ≡ self.now.name }
@@ -41,11 +43,18 @@ impl FlatDevice {
         &self.name
     }
 
-    /// Its nets, place by place, by their numbers.
-    pub fn nodes(&self) -> &[u32]
-        ensures nodes { result.now ≡ self.now.nodes }
+    /// The letter of its card.
+    pub fn letter(&self) -> Letter
+        ensures letter { byte_of result ≡ first_byte self.now.name }
     {
-        &self.nodes
+        self.letter
+    }
+
+    /// Its nets, place by place, by their numbers.
+    pub fn nets(&self) -> &[u32]
+        ensures nets { result.now ≡ self.now.nets }
+    {
+        &self.nets
     }
 
     /// Its model's name.
@@ -63,32 +72,35 @@ impl FlatDevice {
     }
 }
 
-/// A flat deck. Contracts see it as its parts, each in order.
+/// A flat deck. Contracts see each device at the top, under its flat name and with the flat names of its nets.
 #[derive(Debug, Drop)]
 pub struct Flat {
-    /// The title.
-    pub title: Vec<u8>,
-    /// The rails but `0`.
-    pub rails: Vec<Name>,
-    /// The models.
-    pub models: Vec<ModelCard>,
-    /// The head of the subcircuit that is the top.
-    pub top: Option<Head>,
-    /// The flat names of the devices' nets, each once, in order of first appearance.
-    pub nets: Vec<Name>,
-    /// The devices, in flat order.
-    pub devices: Vec<FlatDevice>,
-    /// The texts of passed cards.
-    pub passed: Vec<Vec<u8>>,
+    pub(crate) title: Vec<u8>,
+    pub(crate) rails: Vec<Name>,
+    pub(crate) models: Vec<ModelCard>,
+    pub(crate) top: Option<Head>,
+    pub(crate) nets: Names,
+    pub(crate) devices: Vec<KeptDevice>,
+    pub(crate) passed: Vec<Vec<u8>>,
 }
 
 impl Model for Flat {
     ghost use Rattle.std.specs.Prelude.{map};
-    ghost use Rattle.gl_flat.specs.Numbered.{Numbered};
+    ghost use Rattle.gl_text.specs.Flattening.{Flat as FlatValue};
+    ghost use Rattle.gl_flat.specs.Kept.{AreKept, kept_devices};
 
-    ghost Value = { Numbered };
+    ghost Value = { FlatValue };
 
-    ghost view = { λ f. record { title = f.title.items; rails = f.rails.items; models = f.models.items; top = f.top; nets = f.nets.items; devices = f.devices.items; passed = map (λ t. t.items) f.passed.items } };
+    ghost view = { λ f. record {
+      title = f.title.items;
+      rails = f.rails.items;
+      models = f.models.items;
+      top = f.top;
+      devices = kept_devices f.nets f.devices.items;
+      passed = map (λ t. t.items) f.passed.items;
+    } };
+
+    ghost invariant = { λ f. AreKept f.nets f.devices.items };
 }
 
 impl Flat {
@@ -120,16 +132,17 @@ impl Flat {
         self.top.as_ref()
     }
 
-    /// The flat names of nets, by their numbers.
-    pub fn nets(&self) -> &[Name]
-        ensures nets { result.now ≡ self.now.nets }
+    /// The flat names of the devices' nets, each once in order of first appearance. A net's number is its place there.
+    pub fn nets(&self) -> &Names
+        ensures nets { result.now ≡ nets_of (cards_of self.now) }
     {
         &self.nets
     }
 
-    /// The devices, in flat order.
-    pub fn devices(&self) -> &[FlatDevice]
-        ensures devices { result.now ≡ self.now.devices }
+    /// The devices, in flat order, each net by its number.
+    pub fn devices(&self) -> &[KeptDevice]
+        ensures devices { result.now ≡ map (kept_device (nets_of (cards_of self.now))) (cards_of self.now) }
+        ensures names { map (λ (d : Kept). d.name) result.now ≡ map device_name self.now.devices }
     {
         &self.devices
     }

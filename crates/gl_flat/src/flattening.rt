@@ -3,32 +3,36 @@ ghost use Rattle.std.specs.Option.{option_copied};
 ghost use Rattle.indexmap.specs.IndexMap.{keys, values};
 ghost use Rattle.gl_text.specs.Decks.{once};
 ghost use Rattle.gl_text.specs.Flattening as flat;
-ghost use Rattle.gl_text.specs.Flattening.{bearers, top_ports};
+ghost use Rattle.gl_text.specs.Flattening.{bearers, flat_card, top_ports, long_in, excess_in, text_fault};
+ghost use Rattle.gl_flat.specs.PlainFlats.{plain};
 ghost use Rattle.gl_printed.specs.FlatDecks.{AreRails};
 ghost use Rattle.gl_printed.specs.ReadDecks.{AllDiffer, IsReadDeck, body_name};
 ghost use Rattle.gl_deck.specs.Bodies.{bodies_value, names_of};
 ghost use Rattle.gl_size.specs.Excesses.{fault_of_excess};
-ghost use Rattle.gl_flat.specs.LongNames.{AreCountable, long_in};
-ghost use Rattle.gl_flat.specs.Numbered.{nets_of, numbered, numbered_device};
-ghost use Rattle.gl_flat.specs.Refusals.{Gives, GivesOf, IsFound, IsRefusal, IsTextOf, fault_of};
+ghost use Rattle.gl_flat.specs.LongNames.{AreCountable};
+ghost use Rattle.gl_base.specs.BaseCircuit.{nets_of};
+ghost use Rattle.gl_flat.specs.Kept.{kept_device};
+ghost use Rattle.gl_fault.specs.Refusals.{IsFound, IsRefusal};
+ghost use Rattle.gl_flat.specs.Refusals.{Gives, GivesOf, IsTextOf, fault_of};
 ghost use Rattle.gl_flat.specs.SeenNames.{PlainDiffer};
-ghost use Rattle.gl_flat.specs.Steps.{AreShort, all_devices, devices_in, excess_in, flat_with, judged as judged_by, text_fault};
+ghost use Rattle.gl_flat.specs.Steps.{AreShort, all_devices, devices_in, flat_with, judged as judged_by};
 ghost use Rattle.gl_flat.specs.TopNames.{clash_among as clash_of};
 ghost use Rattle.gl_flat.specs.Ways.{IsScene};
 
 use crate::chosen::{Chosen, choose};
 use crate::clash::refuse_clash;
 use crate::copy::{model_copies, name_copies, text_copies, top_copy};
+use crate::device::FlatDevice;
 use crate::expand::expand;
 use crate::length::text_length;
 use crate::long::first_long;
+use crate::names::Names;
 use crate::number::number_devices;
-use crate::reached::Reached;
 use crate::scene::Scene;
 use crate::seen::Seen;
 use crate::tables::Tables;
 use crate::text::put_flat;
-use crate::{Body, Deck, Flat, FlatDevice, FlatFault, Head, Name, Sub, What};
+use crate::{Body, Deck, Flat, FlatFault, Head, KeptDevice, Name, Sub, What};
 use gl_size::{Excess, first_excess};
 use indexmap::IndexMap;
 use std::alloc::{AllocError, Global};
@@ -73,7 +77,7 @@ fn refuse_text(
     deck: &Deck,
     rails: &[Name],
     head: Option<&Head>,
-    devices: &[Reached<'_>],
+    devices: &[FlatDevice<'_>],
 ) -> Result<(), FlatFault>
     ensures ok { OnOk result (text_fault (flat_with deck.now rails.now (option_copied head.entry) devices.now) ≡ None) }
     ensures refused { IfErr result (λ fault. fault_of fault ≡ text_fault (flat_with deck.now rails.now (option_copied head.entry) devices.now)) }
@@ -85,7 +89,7 @@ fn refuse_text(
 }
 
 /// Refuses the first flat name that is too long.
-fn refuse_long(devices: &[Reached<'_>]) -> Result<(), FlatFault>
+fn refuse_long(devices: &[FlatDevice<'_>]) -> Result<(), FlatFault>
     requires short { AreCountable (flat_map bearers devices.now) }
     ensures ok { OnOk result (long_in (flat_map bearers devices.now) ≡ None) }
     ensures refused { IfErr result (λ fault. fault_of fault ≡ long_in (flat_map bearers devices.now)) }
@@ -107,16 +111,17 @@ fn ports_of<'a>(head: Option<&'a Head>) -> &'a [Name]
 }
 
 /// The nets of devices, and the devices with their nets by number; or the first clash of names.
-fn numbered_nets<'a>(
+fn kept_parts<'a>(
     alloc: Global,
     scene: &Scene<'a>,
-    devices: &[Reached<'a>],
-) -> Result<(Vec<Name>, Vec<FlatDevice>), FlatFault>
-    requires few { length (nets_of devices.now) < 2 ^ 32 }
+    devices: &[FlatDevice<'a>],
+) -> Result<(Names, Vec<KeptDevice>), FlatFault>
+    requires few { length (nets_of (map flat_card devices.now)) < 2 ^ 32 }
     requires plain { PlainDiffer devices.now }
     ensures fits { OnOk result (clash_of scene.now devices.now ≡ None) }
-    ensures nets { IfOk result (λ parts. parts.0.items ≡ nets_of devices.now) }
-    ensures devices { IfOk result (λ parts. parts.1.items ≡ map (numbered_device (nets_of devices.now)) devices.now) }
+    ensures nets { IfOk result (λ parts. parts.0 ≡ nets_of (map flat_card devices.now)) }
+    ensures devices { IfOk result (λ parts. parts.1.items
+        ≡ map (kept_device (nets_of (map flat_card devices.now))) (map flat_card devices.now)) }
     ensures refused { IfErr result (λ fault. IsFound (fault_of fault) (clash_of scene.now devices.now)) }
 {
     let mut seen = Seen::behind(alloc, scene);
@@ -131,15 +136,15 @@ fn flat_of<'a>(
     deck: &Deck,
     rails: &[Name],
     head: Option<&Head>,
-    devices: &[Reached<'a>],
+    devices: &[FlatDevice<'a>],
 ) -> Result<Flat, FlatFault>
-    requires few { length (nets_of devices.now) < 2 ^ 32 }
+    requires few { length (nets_of (map flat_card devices.now)) < 2 ^ 32 }
     requires plain { PlainDiffer devices.now }
     ensures fits { OnOk result (clash_of scene.now devices.now ≡ None) }
-    ensures flat { IfOk result (λ f. f ≡ numbered (flat_with deck.now rails.now (option_copied head.entry) devices.now)) }
+    ensures flat { IfOk result (λ f. f ≡ plain (flat_with deck.now rails.now (option_copied head.entry) devices.now)) }
     ensures refused { IfErr result (λ fault. IsFound (fault_of fault) (clash_of scene.now devices.now)) }
 {
-    let (nets, devices) = numbered_nets(alloc, scene, devices)?;
+    let (nets, devices) = kept_parts(alloc, scene, devices)?;
     Ok(Flat {
         title: Vec::from_slice(alloc, deck.title())?,
         rails: name_copies(alloc, rails)?,
@@ -158,7 +163,7 @@ fn text_of<'a>(
     deck: &Deck,
     rails: &[Name],
     head: Option<&Head>,
-    devices: &[Reached<'a>],
+    devices: &[FlatDevice<'a>],
 ) -> Result<Vec<u8>, FlatFault>
     requires plain { PlainDiffer devices.now }
     ensures fits { OnOk result (clash_of scene.now devices.now ≡ None) }
@@ -176,7 +181,7 @@ fn refuse_lengths(
     deck: &Deck,
     rails: &[Name],
     head: Option<&Head>,
-    devices: &[Reached<'_>],
+    devices: &[FlatDevice<'_>],
 ) -> Result<(), FlatFault>
     ensures short { OnOk result (AreShort (flat_with deck.now rails.now (option_copied head.entry) devices.now)) }
     ensures refused { IfErr result (λ fault. IsRefusal (fault_of fault) (judged_by deck.now rails.now (option_copied head.entry) devices.now)) }
@@ -192,7 +197,7 @@ fn judged<'a>(
     deck: &Deck,
     rails: &[Name],
     head: Option<&Head>,
-    devices: &[Reached<'a>],
+    devices: &[FlatDevice<'a>],
 ) -> Result<Flat, FlatFault>
     requires rails { scene.now.rails.now.keys ≡ once rails.now }
     requires own { scene.now.own.now.keys ≡ once (top_ports (option_copied head)) }
@@ -210,7 +215,7 @@ fn judged_text<'a>(
     deck: &Deck,
     rails: &[Name],
     head: Option<&Head>,
-    devices: &[Reached<'a>],
+    devices: &[FlatDevice<'a>],
 ) -> Result<Vec<u8>, FlatFault>
     requires rails { scene.now.rails.now.keys ≡ once rails.now }
     requires own { scene.now.own.now.keys ≡ once (top_ports (option_copied head)) }
@@ -226,7 +231,7 @@ pub fn expanded<'a>(
     alloc: Global,
     scene: &Scene<'a>,
     cards: &'a [Body],
-) -> Result<Vec<Reached<'a>>, AllocError>
+) -> Result<Vec<FlatDevice<'a>>, AllocError>
     requires scene { IsScene scene.now }
     ensures devices { IfOk result (λ ds. ds.items ≡ devices_in scene.now cards.now) }
 {

@@ -3,13 +3,10 @@ ghost use Rattle.std.specs.Prelude.{◌≡◌, ◌≤◌, ℕ, List, Contains, O
 ghost use Rattle.gl_text.specs.Decks.{Deck};
 ghost use Rattle.gl_text.specs.Flattening.{Flat, Net, device_name, flat_text, flatten, net_name};
 ghost use Rattle.gl_printed.specs.ReadDecks.{AllDiffer};
+ghost use Rattle.gl_flat.specs.PlainFlats.{plain};
 ghost use Rattle.gl_flat.specs.FlatNets.{all_nets, device_nets};
-ghost use Rattle.gl_flat.specs.Numbered.{nets_of, number_in, numbered, numbered_text};
-
-/// The printed text of a flat deck with its nets numbered is the text of the flat deck.
-pub fn numbered_texts_are_flat_texts()
-    ensures same { (f : Flat) → numbered_text (numbered f) ≡ flat_text f }
-{}
+ghost use Rattle.gl_base.specs.BaseCircuit.{net_number, nets_of};
+ghost use Rattle.gl_base.specs.Rounds.{cards_of};
 
 /// A flat deck has at most 200,000 devices.
 pub fn flat_decks_are_bounded()
@@ -25,5 +22,11 @@ pub fn flat_names_are_one_to_one()
         → flatten deck rails top ≡ Ok flat → Contains (all_nets flat) m → Contains (all_nets flat) n → net_name m ≡ net_name n → m ≡ n }
     ensures numbers { (deck : Deck) (rails : List (List ℕ)) (top : Option (List ℕ)) (flat : Flat) (m n : Net)
         → flatten deck rails top ≡ Ok flat → Contains (device_nets flat) m → Contains (device_nets flat) n
-        → number_in (nets_of flat.devices) (net_name m) ≡ number_in (nets_of flat.devices) (net_name n) → m ≡ n }
+        → net_number (nets_of (cards_of flat)) (net_name m) ≡ net_number (nets_of (cards_of flat)) (net_name n) → m ≡ n }
+{}
+
+/// A flat deck with its devices at the top has the same cards and the same text.
+pub fn plain_decks_stay()
+    ensures cards { (f : Flat) → cards_of (plain f) ≡ cards_of f }
+    ensures text { (f : Flat) → flat_text (plain f) ≡ flat_text f }
 {}

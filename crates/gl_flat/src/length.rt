@@ -2,16 +2,15 @@ ghost use Rattle.std.specs.Prelude.{◌≡◌, ◌∷◌, [], length, map, flat_
 ghost use Rattle.std.specs.Option.{option_copied};
 ghost use Rattle.gl_text.specs.Cards as cards;
 ghost use Rattle.gl_text.specs.Cards.{spaced};
-ghost use Rattle.gl_text.specs.Decks.{line_of};
+ghost use Rattle.gl_text.specs.Decks.{line_of, global_line, model_line, passed_line};
 ghost use Rattle.gl_text.specs.Flattening as flat;
-ghost use Rattle.gl_text.specs.Flattening.{path_text, around, flat_text};
+ghost use Rattle.gl_text.specs.Flattening.{path_text, around, flat_text, flat_line};
 ghost use Rattle.gl_card.specs.Lines.{spaced_all};
-ghost use Rattle.gl_flat.specs.Lengths.{after, flat_line};
+ghost use Rattle.gl_flat.specs.Lengths.{after};
 ghost use Rattle.gl_flat.specs.LongNames.{IsCountable};
-ghost use Rattle.gl_flat.specs.Numbered.{global_line, model_line, passed_line};
 
+use crate::device::FlatDevice;
 use crate::net::Net;
-use crate::reached::Reached;
 use crate::{Deck, DevCard, Head, ModelCard, Name};
 
 /// Adds a text's length. A count that would be too large stays at the largest.
@@ -62,7 +61,7 @@ pub fn net_length(net: &Net<'_>) -> usize
 }
 
 /// The length of a device's flat name.
-pub fn device_length(device: &Reached<'_>) -> usize
+pub fn device_length(device: &FlatDevice<'_>) -> usize
     requires short { IsCountable (flat.device_name device.now) }
     ensures length { result ≡ length (flat.device_name device.now) }
 {
@@ -70,7 +69,7 @@ pub fn device_length(device: &Reached<'_>) -> usize
 }
 
 /// Adds the length of a device's flat name.
-fn add_own(total: usize, device: &Reached<'_>) -> usize
+fn add_own(total: usize, device: &FlatDevice<'_>) -> usize
     ensures total { result ≡ after total (flat.device_name device.now) }
 {
     let name = device.card.name().as_bytes();
@@ -110,7 +109,7 @@ fn add_top_nodes(total: usize, names: &[Name]) -> usize
 }
 
 /// Adds the lengths of spaces and a device's nets.
-fn add_places(total: usize, device: &Reached<'_>) -> usize
+fn add_places(total: usize, device: &FlatDevice<'_>) -> usize
     ensures total { result ≡ after total (spaced_all (map flat.net_name device.now.nets)) }
 {
     match &device.nets {
@@ -140,7 +139,7 @@ fn add_tail(total: usize, tail: &[u8]) -> usize
 }
 
 /// Adds the length of a device's line.
-fn add_device(total: usize, device: &Reached<'_>) -> usize
+fn add_device(total: usize, device: &FlatDevice<'_>) -> usize
     ensures total { result ≡ after total (flat_line device.now) }
 {
     let named = add_own(total, device);
@@ -151,7 +150,7 @@ fn add_device(total: usize, device: &Reached<'_>) -> usize
 }
 
 /// Adds the lengths of devices' lines.
-fn add_devices(total: usize, devices: &[Reached<'_>]) -> usize
+fn add_devices(total: usize, devices: &[FlatDevice<'_>]) -> usize
     ensures total { result ≡ after total (flat_map flat_line devices.now) }
 {
     let mut sum = total;
@@ -226,7 +225,7 @@ fn add_ends(total: usize, name: &Name) -> usize
 }
 
 /// Adds the lengths of devices' lines, between the cards of the top subcircuit if there is one.
-fn add_around(total: usize, head: Option<&Head>, devices: &[Reached<'_>]) -> usize
+fn add_around(total: usize, head: Option<&Head>, devices: &[FlatDevice<'_>]) -> usize
     ensures total { result ≡ after total (around (option_copied head.entry) (flat_map flat_line devices.now)) }
 {
     match head {
@@ -262,7 +261,7 @@ pub fn text_length(
     deck: &Deck,
     rails: &[Name],
     head: Option<&Head>,
-    devices: &[Reached<'_>],
+    devices: &[FlatDevice<'_>],
 ) -> usize
     ensures length { result ≡ after 0 (flat_text (record { title = deck.now.title; rails = rails.now; models = deck.now.models; top = option_copied head.entry; devices = devices.now; passed = deck.now.passed })) }
 {

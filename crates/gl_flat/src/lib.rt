@@ -5,6 +5,7 @@ mod cell;
 mod chosen;
 mod clash;
 mod copy;
+mod device;
 mod dot;
 mod expand;
 mod fault;
@@ -14,11 +15,11 @@ mod flattening;
 mod laws;
 mod length;
 mod long;
+mod names;
 mod naming;
 mod net;
 mod number;
 mod print;
-mod reached;
 mod same;
 mod scene;
 mod seen;
@@ -31,9 +32,10 @@ mod way;
 
 pub use cell::first_clash;
 pub use fault::{FlatFault, What};
-pub use flat::{Flat, FlatDevice};
+pub use flat::{Flat, KeptDevice};
 pub use flattening::{flatten, flattened_text};
 pub use gl_deck::{
     Body, CallCard, Deck, DevCard, Head, Letter, Memory, ModelCard, Name, Sub, Tail,
 };
-pub use laws::{flat_decks_are_bounded, flat_names_are_one_to_one, numbered_texts_are_flat_texts};
+pub use laws::{flat_decks_are_bounded, flat_names_are_one_to_one, plain_decks_stay};
+pub use names::Names;

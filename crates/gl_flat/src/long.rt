@@ -1,13 +1,13 @@
+ghost use Rattle.gl_fault.specs.Refusals.{when};
 ghost use Rattle.std.specs.Prelude.{◌≡◌, ◌<◌, ◌^◌, map, flat_map, nat_lt, option_map};
 ghost use Rattle.gl_text.specs.LogicalLines.{NAME as MOST_BYTES, long_flat_name};
-ghost use Rattle.gl_text.specs.Cards.{when};
-ghost use Rattle.gl_text.specs.Flattening.{bearers, net, top_net};
-ghost use Rattle.gl_flat.specs.LongNames.{AreCountable, long_in};
+ghost use Rattle.gl_text.specs.Flattening.{bearers, net, top_net, long_in};
+ghost use Rattle.gl_flat.specs.LongNames.{AreCountable};
 
 use crate::Name;
+use crate::device::FlatDevice;
 use crate::length::{device_length, net_length};
 use crate::net::Net;
-use crate::reached::Reached;
 
 /// The most bytes that a flat name may have.
 const NAME: usize = 1024;
@@ -54,7 +54,7 @@ fn long_top(names: &[Name]) -> Option<u32>
 }
 
 /// The length of the first flat name of a device's nets that is too long.
-fn long_place(device: &Reached<'_>) -> Option<u32>
+fn long_place(device: &FlatDevice<'_>) -> Option<u32>
     requires short { AreCountable (map net device.now.nets) }
     ensures long { option_map long_flat_name result ≡ long_in (map net device.now.nets) }
 {
@@ -65,7 +65,7 @@ fn long_place(device: &Reached<'_>) -> Option<u32>
 }
 
 /// The length of the first flat name of a device and its nets that is too long.
-fn long_of(device: &Reached<'_>) -> Option<u32>
+fn long_of(device: &FlatDevice<'_>) -> Option<u32>
     requires short { AreCountable (bearers device.now) }
     ensures long { option_map long_flat_name result ≡ long_in (bearers device.now) }
 {
@@ -76,7 +76,7 @@ fn long_of(device: &Reached<'_>) -> Option<u32>
 }
 
 /// The length of the first flat name that is too long, by device and its own name before those of its nets.
-pub fn first_long(devices: &[Reached<'_>]) -> Option<u32>
+pub fn first_long(devices: &[FlatDevice<'_>]) -> Option<u32>
     requires short { AreCountable (flat_map bearers devices.now) }
     ensures long { option_map long_flat_name result ≡ long_in (flat_map bearers devices.now) }
 {

@@ -4,9 +4,9 @@ ghost use Rattle.gl_text.specs.Flattening as flat;
 ghost use Rattle.gl_text.specs.Flattening.{path_text};
 
 use crate::Name;
+use crate::device::FlatDevice;
 use crate::flat_name::FlatName;
 use crate::net::Net;
-use crate::reached::Reached;
 use std::alloc::{AllocError, Global};
 
 /// Appends an X card's part of a path.
@@ -43,7 +43,7 @@ fn net_text(alloc: Global, net: &Net<'_>) -> Result<Name, AllocError>
 {
     let mut bytes = Vec::new(alloc);
     put_net(&mut bytes, net)?;
-    Ok(Name { bytes })
+    Ok(Name::from_vec(alloc, bytes)?)
 }
 
 /// A net's flat name.
@@ -69,7 +69,7 @@ fn first_byte(name: &[u8]) -> u8
 }
 
 /// Appends a device's flat name.
-pub fn put_device_name(out: &mut Vec<u8>, device: &Reached<'_>) -> Result<(), AllocError>
+pub fn put_device_name(out: &mut Vec<u8>, device: &FlatDevice<'_>) -> Result<(), AllocError>
     ensures ok { OnOk result (out.new.items ≡ out.old.items ++ flat.device_name device.now) }
 {
     let name = device.card.name().as_bytes();
@@ -83,10 +83,10 @@ pub fn put_device_name(out: &mut Vec<u8>, device: &Reached<'_>) -> Result<(), Al
 }
 
 /// A device's flat name.
-pub fn device_text(alloc: Global, device: &Reached<'_>) -> Result<Name, AllocError>
+pub fn device_text(alloc: Global, device: &FlatDevice<'_>) -> Result<Name, AllocError>
     ensures name { IfOk result (λ name. name ≡ flat.device_name device.now) }
 {
     let mut bytes = Vec::new(alloc);
     put_device_name(&mut bytes, device)?;
-    Ok(Name { bytes })
+    Ok(Name::from_vec(alloc, bytes)?)
 }

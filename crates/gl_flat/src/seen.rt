@@ -1,15 +1,18 @@
-ghost use Rattle.std.specs.Prelude.{◌≡◌, ◌∷◌, [], Ok, map, filter, flat_map, OnOk, IfOk, IfErr};
+ghost use Rattle.std.specs.Prelude.{◌≡◌, ◌∷◌, ◌<◌, ◌^◌, [], Ok, length, map, filter, flat_map, OnOk, IfOk, IfErr};
+ghost use Rattle.gl_text.specs.Decks.{once};
 ghost use Rattle.gl_text.specs.Flattening.{bearers, device, device_name, net, net_name, top_net};
-ghost use Rattle.gl_flat.specs.Numbered.{number_in};
-ghost use Rattle.gl_flat.specs.Refusals.{IsRefusal, fault_of};
+ghost use Rattle.gl_base.specs.BaseCircuit.{net_number};
+ghost use Rattle.gl_fault.specs.Refusals.{IsRefusal};
+ghost use Rattle.gl_flat.specs.Refusals.{fault_of};
 ghost use Rattle.gl_flat.specs.SeenNames.{may_clash, net_names, nothing_seen, seen_all, takes_top_name as is_taken_from_top, with_device};
 ghost use Rattle.gl_flat.specs.TopNames.{top_names};
 
 use crate::copy::name_copy;
+use crate::device::FlatDevice;
 use crate::dot::has_dot;
+use crate::names::Names;
 use crate::naming::{device_text, flat_name};
 use crate::net::Net;
-use crate::reached::Reached;
 use crate::same::same_net;
 use crate::scene::{Scene, is_top};
 use crate::{FlatFault, Name};
@@ -53,6 +56,13 @@ fn keys_of(alloc: Global, nets: IndexMap<Name, Net<'_>>) -> Result<Vec<Name>, Al
     ensures keys { IfOk result (λ names. names.items ≡ map (λ e. e.0) nets.entry.entries) }
 {
     nets.into_keys().collect(alloc)
+}
+
+/// Names, each once.
+fn set_of(alloc: Global, names: Vec<Name>) -> Result<IndexSet<Name>, AllocError>
+    ensures keys { IfOk result (λ set. set.keys ≡ once names.items) }
+{
+    IndexSet::from_iter(alloc, names)
 }
 
 impl<'a> Seen<'a> {
@@ -103,7 +113,7 @@ impl<'a> Seen<'a> {
     /// appearance of their flat names.
     pub fn add_net(&mut self, alloc: Global, added: &Net<'a>) -> Result<usize, FlatFault>
         ensures ok { OnOk result (seen_all self.old (net added.now ∷ []) ≡ Ok self.new) }
-        ensures number { IfOk result (λ number. number ≡ number_in (net_names self.new) (net_name added.now)) }
+        ensures number { IfOk result (λ number. number ≡ net_number (net_names self.new) (net_name added.now)) }
         ensures refused { IfErr result (λ fault. IsRefusal (fault_of fault) (seen_all self.old (net added.now ∷ []))) }
     {
         let name = flat_name(alloc, added)?;
@@ -127,10 +137,13 @@ impl<'a> Seen<'a> {
     }
 
     /// The flat names of the devices' nets, by their numbers.
-    pub fn into_names(self, alloc: Global) -> Result<Vec<Name>, AllocError>
-        ensures names { IfOk result (λ names. names.items ≡ net_names self.entry) }
+    pub fn into_names(self, alloc: Global) -> Result<Names, AllocError>
+        requires few { length (once (net_names self)) < 2 ^ 32 }
+        ensures names { IfOk result (λ names. names ≡ once (net_names self.entry)) }
     {
-        keys_of(alloc, self.nets)
+        let keys = keys_of(alloc, self.nets)?;
+        let set = set_of(alloc, keys)?;
+        Ok(Names::of_set(set))
     }
 
     /// Adds a net whose flat name holds a dot, or refuses it; any other net is passed over.
@@ -167,7 +180,7 @@ impl<'a> Seen<'a> {
     }
 
     /// Adds a device's nets whose flat names hold a dot, or refuses the first whose flat name another net has.
-    fn add_places(&mut self, alloc: Global, added: &Reached<'a>) -> Result<(), FlatFault>
+    fn add_places(&mut self, alloc: Global, added: &FlatDevice<'a>) -> Result<(), FlatFault>
         ensures ok { OnOk result (seen_all self.old (filter may_clash (map net added.now.nets)) ≡ Ok self.new) }
         ensures refused { IfErr result (λ fault. IsRefusal (fault_of fault) (seen_all self.old (filter may_clash (map net added.now.nets)))) }
     {
@@ -178,7 +191,7 @@ impl<'a> Seen<'a> {
     }
 
     /// Adds a device's flat name, or refuses one that was seen. A name without a dot is not even written.
-    fn add_own(&mut self, alloc: Global, added: &Reached<'a>) -> Result<(), FlatFault>
+    fn add_own(&mut self, alloc: Global, added: &FlatDevice<'a>) -> Result<(), FlatFault>
         ensures ok { OnOk result (seen_all self.old (device (device_name added.now) ∷ []) ≡ Ok self.new) }
         ensures refused { IfErr result (λ fault. IsRefusal (fault_of fault) (seen_all self.old (device (device_name added.now) ∷ []))) }
     {
@@ -189,7 +202,7 @@ impl<'a> Seen<'a> {
     }
 
     /// Adds what may clash of a device: its name and its nets. Or refuses the first that does.
-    fn add_bearers(&mut self, alloc: Global, added: &Reached<'a>) -> Result<(), FlatFault>
+    fn add_bearers(&mut self, alloc: Global, added: &FlatDevice<'a>) -> Result<(), FlatFault>
         ensures ok { OnOk result (seen_all self.old (filter may_clash (bearers added.now)) ≡ Ok self.new) }
         ensures refused { IfErr result (λ fault. IsRefusal (fault_of fault) (seen_all self.old (filter may_clash (bearers added.now)))) }
     {
@@ -198,7 +211,7 @@ impl<'a> Seen<'a> {
     }
 
     /// Adds what may clash of devices, or refuses the first that does.
-    pub fn add_all(&mut self, alloc: Global, devices: &[Reached<'a>]) -> Result<(), FlatFault>
+    pub fn add_all(&mut self, alloc: Global, devices: &[FlatDevice<'a>]) -> Result<(), FlatFault>
         ensures ok { OnOk result (seen_all self.old (filter may_clash (flat_map bearers devices.now)) ≡ Ok self.new) }
         ensures refused { IfErr result (λ fault. IsRefusal (fault_of fault) (seen_all self.old (filter may_clash (flat_map bearers devices.now)))) }
     {

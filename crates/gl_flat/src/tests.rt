@@ -322,7 +322,7 @@ fn numbers(rt: HostRuntime) -> Result<(), Fail> {
     let Ok(flat) = flat(rt.alloc(), &deck, b"")? else {
         return Err(Fail::new("unexpected"));
     };
-    let [p, n, zero] = flat.nets() else {
+    let [p, n, zero] = flat.nets().items() else {
         return Err(Fail::new("unexpected"));
     };
     assert!(rt; p.as_bytes() == b"top1".as_slice());
@@ -331,7 +331,7 @@ fn numbers(rt: HostRuntime) -> Result<(), Fail> {
     let [transistor, capacitor] = flat.devices() else {
         return Err(Fail::new("unexpected"));
     };
-    assert!(rt; transistor.nodes() == [0, 1, 2, 2].as_slice());
-    assert!(rt; capacitor.nodes() == [1, 2].as_slice());
+    assert!(rt; transistor.nets() == [0, 1, 2, 2].as_slice());
+    assert!(rt; capacitor.nets() == [1, 2].as_slice());
     Ok(())
 }

@@ -2,18 +2,16 @@
 ghost use Rattle.std.specs.Prelude.{◌≡◌, ◌∷◌, [], ◌++◌, OnOk, map, flat_map, option_to_list};
 ghost use Rattle.std.specs.Option.{option_copied};
 ghost use Rattle.gl_text.specs.Flattening as flat;
-ghost use Rattle.gl_text.specs.Flattening.{around, flat_text};
+ghost use Rattle.gl_text.specs.Flattening.{around, flat_text, flat_line};
 ghost use Rattle.gl_card.specs.Lines.{spaced_all};
-ghost use Rattle.gl_flat.specs.Lengths.{flat_line};
 ghost use Rattle.gl_flat.specs.Steps.{flat_with};
 
+use crate::device::FlatDevice;
 use crate::naming::{put_device_name, put_net};
 use crate::net::Net;
-use crate::print::{
-    put_all_passed, put_ends, put_globals, put_head, put_models, put_tail, put_text, put_word,
-};
-use crate::reached::Reached;
+use crate::print::{put_tail, put_word};
 use crate::{Deck, Head, Memory, Name};
+use gl_deck::{put_all_passed, put_ends, put_globals, put_head, put_models, put_text};
 
 /// Appends a space and a net's flat name.
 fn put_node(out: &mut Vec<u8>, net: &Net<'_>) -> Result<(), Memory>
@@ -45,7 +43,7 @@ fn put_top_nodes(out: &mut Vec<u8>, names: &[Name]) -> Result<(), Memory>
 }
 
 /// Appends a space and the flat name of each of a device's nets.
-fn put_places(out: &mut Vec<u8>, device: &Reached<'_>) -> Result<(), Memory>
+fn put_places(out: &mut Vec<u8>, device: &FlatDevice<'_>) -> Result<(), Memory>
     ensures ok { OnOk result (out.new.items ≡ out.old.items ++ spaced_all (map flat.net_name device.now.nets)) }
 {
     match &device.nets {
@@ -65,7 +63,7 @@ fn put_model(out: &mut Vec<u8>, model: Option<&Name>) -> Result<(), Memory>
 }
 
 /// Appends a device's line.
-fn put_device(out: &mut Vec<u8>, device: &Reached<'_>) -> Result<(), Memory>
+fn put_device(out: &mut Vec<u8>, device: &FlatDevice<'_>) -> Result<(), Memory>
     ensures ok { OnOk result (out.new.items ≡ out.old.items ++ flat_line device.now) }
 {
     put_device_name(out, device)?;
@@ -77,7 +75,7 @@ fn put_device(out: &mut Vec<u8>, device: &Reached<'_>) -> Result<(), Memory>
 }
 
 /// Appends the devices' lines.
-fn put_devices(out: &mut Vec<u8>, devices: &[Reached<'_>]) -> Result<(), Memory>
+fn put_devices(out: &mut Vec<u8>, devices: &[FlatDevice<'_>]) -> Result<(), Memory>
     ensures ok { OnOk result (out.new.items ≡ out.old.items ++ flat_map flat_line devices.now) }
 {
     for device in devices {
@@ -87,7 +85,11 @@ fn put_devices(out: &mut Vec<u8>, devices: &[Reached<'_>]) -> Result<(), Memory>
 }
 
 /// Appends the devices' lines, between those of the top subcircuit if there is one.
-fn put_around(out: &mut Vec<u8>, head: Option<&Head>, devices: &[Reached<'_>]) -> Result<(), Memory>
+fn put_around(
+    out: &mut Vec<u8>,
+    head: Option<&Head>,
+    devices: &[FlatDevice<'_>],
+) -> Result<(), Memory>
     ensures ok { OnOk result (out.new.items ≡ out.old.items ++ around (option_copied head.entry) (flat_map flat_line devices.now)) }
 {
     match head {
@@ -106,7 +108,7 @@ pub fn put_flat(
     deck: &Deck,
     rails: &[Name],
     head: Option<&Head>,
-    devices: &[Reached<'_>],
+    devices: &[FlatDevice<'_>],
 ) -> Result<(), Memory>
     ensures ok { OnOk result (out.new.items ≡ out.old.items ++ flat_text (flat_with deck.now rails.now (option_copied head.entry) devices.now)) }
 {

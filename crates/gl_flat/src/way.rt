@@ -2,8 +2,8 @@ ghost use Rattle.std.specs.Prelude.{◌≡◌, ◌++◌, ◌∷◌, [], map, IfO
 ghost use Rattle.gl_text.specs.Flattening as flat;
 ghost use Rattle.gl_flat.specs.Ways.{place_of, path_of};
 
+use crate::device::FlatDevice;
 use crate::net::Net;
-use crate::reached::Reached;
 use crate::scene::is_rail;
 use crate::step::{Step, actual};
 use crate::{DevCard, Name};
@@ -92,17 +92,17 @@ pub fn device_at<'a>(
     rails: &IndexSet<Name>,
     way: &[Step<'a>],
     card: &'a DevCard,
-) -> Result<Reached<'a>, AllocError>
+) -> Result<FlatDevice<'a>, AllocError>
     ensures device { IfOk result (λ d. d ≡ record { path = (place_of rails.now.keys way.now).path; card = card.now; nets = map (flat.net_of rails.now.keys (place_of rails.now.keys way.now)) card.now.nodes }) }
 {
     if way.is_empty() {
-        return Ok(Reached {
+        return Ok(FlatDevice {
             path: Vec::new(alloc),
             card,
             nets: None,
         });
     }
-    Ok(Reached {
+    Ok(FlatDevice {
         path: path_names(alloc, way)?,
         card,
         nets: Some(nets_at(alloc, rails, way, card.nodes())?),

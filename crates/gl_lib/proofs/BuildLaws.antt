@@ -5,7 +5,7 @@ use Rattle.std.proofs.lemmas.List.Elements.{Contains-get_or, All-map}
 use Rattle.gl_text.specs.LogicalLines.{same_text}
 use Rattle.gl_text.specs.Cards.{Device as Card, Head}
 use Rattle.gl_text.specs.Decks.{once, is_in}
-use Rattle.gl_text.specs.Flattening.{top_ports}
+use Rattle.gl_text.specs.Flattening.{Flat, top_ports}
 use Rattle.gl_text.specs.CellCards.{devices_in, IsCellOf}
 use Rattle.gl_match.specs.declared.role.Role.{Role}
 use Rattle.gl_match.specs.Graph.{Circuit, Pattern, Device, FitsInto}
@@ -18,20 +18,22 @@ use Rattle.gl_base.specs.TypeNames.{TypeName, type_by, word_of, classes_of}
 use Rattle.gl_base.specs.BaseCircuit.{Source, nets_of, net_number, types_of, type_in, device_by, device_of, circuit_of}
 use Rattle.gl_base.specs.Patterns.{Base, role_of, role_by, pattern_of, IsSound}
 use Rattle.gl_base.specs.Libraries.{Library}
-use Rattle.gl_base.specs.Rounds.{cells_at, searched, cell_pattern}
-use Rattle.gl_base.specs.Keeping.{keeping, base_of, unless_unknown, base_keeping}
+use Rattle.gl_base.specs.Rounds.{cards_of, source_of, cells_at, searched, cell_pattern}
+use Rattle.gl_fault.proofs.AnswerLaws.{refused_by}
+use Rattle.gl_fault.specs.Refusals.{or_else, IsFound, IsRefusal}
+use Rattle.gl_base.specs.Keeping.{keeping, base_of, base_keeping, unknown_keep}
 use Rattle.gl_base.proofs.OnceLaws.{found, once_kept}
 use Rattle.gl_base.proofs.TextLaws as text
-use Rattle.gl_flat.specs.Numbered.{Numbered, NumberedDevice}
-use Rattle.gl_lib.specs.Sources.{cards_in, source_in, device_of_flat, AreSound}
+use Rattle.gl_flat.specs.Kept.{KeptDevice, kept_device}
+use Rattle.gl_lib.specs.Sources.{device_of_flat, AreSound}
 use Rattle.gl_lib.specs.declared.fault.KeepFault.{KeepFault}
-use Rattle.gl_lib.specs.Kept.{IsFound, IsRefusal, unknown_of, Gives}
+use Rattle.gl_lib.specs.Kept.{unknown_of, Gives}
 use Rattle.gl_lib.specs.Numbered.{AreNets, IsNumbered, IsAmongTypes}
 use Rattle.gl_lib.proofs.CellLaws.{cells_among}
 use Rattle.gl_lib.proofs.FitLaws.{pattern_fits}
 use Rattle.gl_lib.proofs.PatternLaws.{ports_are_nets}
 use Rattle.gl_lib.proofs.SoundLaws.{keeping_sound, circuit_sound, circuit_small, cell_numbered, pattern_sound, pattern_few}
-use Rattle.gl_lib.proofs.FlatLaws.{flat_devices_same, nets_once}
+use Rattle.gl_lib.proofs.FlatLaws.{kept_parts}
 
 -- where there is no refusal, a fault is want of memory
 pub only_memory : (refusal : Option BuildFault) (fault : BuildFault) → refusal ≡ None → (fault ≡ Memory) ⊎ (refusal ≡ Some fault) → fault ≡ Memory
@@ -67,7 +69,7 @@ module _ (s : Source) (words : List ℕ → Option (List ℕ)) (kinds : List Typ
       (subst (λ ws. All (IsNumbered (type_by ws) (types_of s) (nets_of cards)) cards) (sym words_same) (cell_numbered s is head cards among whole)))
 
   -- the types of flat devices have numbers in the tables
-  pub flat_by_tables : (devices : List NumberedDevice) → All (IsAmongTypes (type_in s) (types_of s)) devices → All (IsAmongTypes (type_by words) kinds) devices
+  pub flat_by_tables : (devices : List KeptDevice) → All (IsAmongTypes (type_in s) (types_of s)) devices → All (IsAmongTypes (type_by words) kinds) devices
   flat_by_tables devices h =
       subst (λ ks. All (IsAmongTypes (type_by words) ks) devices) (sym kinds_are)
       (subst (λ ws. All (IsAmongTypes (type_by ws) (types_of s)) devices) (sym words_same) h)
@@ -86,21 +88,17 @@ module _ (s : Source) (words : List ℕ → Option (List ℕ)) (kinds : List Typ
       λ i. pattern_given (parts_are i) (roles_are i) (numbers_are i)
 
 -- what is given for the circuit
-pub circuit_is : (f : Numbered) (library : Library) → AreSound f library → (keep : List (List ℕ)) (words : List ℕ → Option (List ℕ)) (kinds : List TypeName)
-    → ((name : List ℕ) → words name ≡ word_of (f.models ++ library.deck.models) name) → kinds ≡ types_of (source_in f library)
-    → (nets all rail_items : List (List ℕ)) (shapes : List (List ℕ)) (devices : List NumberedDevice) (parts : List Device) (count : ℕ) (stands : List (Option ℕ)) (pinned : List ℕ) (top : Option Head)
-    → nets ≡ nets_of (cards_in f) → rail_items ≡ all → all ≡ all_rails f.rails → shapes ≡ map classes_of (types_of (source_in f library)) → devices ≡ f.devices → top ≡ f.top
+pub circuit_is : (f : Flat) (library : Library) (keep : List (List ℕ)) (words : List ℕ → Option (List ℕ)) (kinds : List TypeName)
+    → ((name : List ℕ) → words name ≡ word_of (f.models ++ library.deck.models) name) → kinds ≡ types_of (source_of f library)
+    → (nets all rail_items : List (List ℕ)) (shapes : List (List ℕ)) (devices : List KeptDevice) (parts : List Device) (count : ℕ) (stands : List (Option ℕ)) (pinned : List ℕ) (top : Option Head)
+    → nets ≡ nets_of (cards_of f) → rail_items ≡ all → all ≡ all_rails f.rails → shapes ≡ map classes_of (types_of (source_of f library)) → devices ≡ map (kept_device (nets_of (cards_of f))) (cards_of f) → top ≡ f.top
     → parts ≡ map (device_of_flat (type_by words) kinds) devices → count ≡ length nets → stands ≡ map (λ rail. position (same_text rail) nets) rail_items → pinned ≡ filter_map (λ name. position (same_text name) nets) (once (top_ports top ++ keep))
-    → circuit_given shapes parts count stands pinned ≡ circuit_of (keeping keep (source_in f library))
-circuit_is f library is keep words kinds words_are kinds_are nets all rail_items shapes devices parts count stands pinned top nets_are items_are all_are shapes_are devices_are top_is p n r q =
-    let s = source_in f library in
+    → circuit_given shapes parts count stands pinned ≡ circuit_of (keeping keep (source_of f library))
+circuit_is f library keep words kinds words_are kinds_are nets all rail_items shapes devices parts count stands pinned top nets_are items_are all_are shapes_are devices_are top_is p n r q =
+    let s = source_of f library in
     let words_same : words ≡ word_of (f.models ++ library.deck.models) = λ i name. words_are name i in
-    let once_nets = nets_once f.nets (cards_in f) is.nets_are in
-    let first : parts ≡ map (device_of_flat (type_in s) (types_of s)) f.devices = p ∙ (λ i. map (device_of_flat (type_by (words_same i)) (kinds_are i)) (devices_are i)) in
-    let parts_are : parts ≡ map (device_of s (nets_of s.devices)) s.devices =
-    first
-    ∙ flat_devices_same (word_of (f.models ++ library.deck.models)) (types_of s) f.nets once_nets f.devices is.nodes_below
-    ∙ ap (λ ns. map (device_of s ns) s.devices) is.nets_are in
+    let first : parts ≡ map (device_of_flat (type_in s) (types_of s)) (map (kept_device (nets_of s.devices)) s.devices) = p ∙ (λ i. map (device_of_flat (type_by (words_same i)) (kinds_are i)) (devices_are i)) in
+    let parts_are : parts ≡ map (device_of s (nets_of s.devices)) s.devices = first ∙ kept_parts (word_of (f.models ++ library.deck.models)) (types_of s) (nets_of s.devices) s.devices in
     let count_is : count ≡ length (nets_of s.devices) = n ∙ ap length nets_are in
     let rails_are : rail_items ≡ all_rails f.rails = items_are ∙ all_are in
     let stands_are : stands ≡ map (λ rail. position (same_text rail) (nets_of s.devices)) (all_rails f.rails) = r ∙ (λ i. map (λ rail. position (same_text rail) (nets_are i)) (rails_are i)) in
@@ -114,25 +112,26 @@ pub circuit_unrefused : (s : Source) → IsSound s → (given : Circuit) → giv
 circuit_unrefused s is given e = ap circuit_fault e ∙ circuit_sound s is
 
 -- each pattern fits into the circuit in which names are kept
-pub all_fit : (f : Numbered) (library : Library) → AreSound f library → (keep : List (List ℕ)) (circuit : Circuit) (patterns : List Pattern) → circuit ≡ circuit_of (keeping keep (source_in f library))
-    → patterns ≡ map (cell_pattern (source_in f library)) (searched (cells_at 0 library)) → All (FitsInto circuit) patterns
+pub all_fit : (f : Flat) (library : Library) → AreSound f library → (keep : List (List ℕ)) (circuit : Circuit) (patterns : List Pattern) → circuit ≡ circuit_of (keeping keep (source_of f library))
+    → patterns ≡ map (cell_pattern (source_of f library)) (searched (cells_at 0 library)) → All (FitsInto circuit) patterns
 all_fit f library is keep circuit patterns circuit_is patterns_are =
-    let s : Source = keeping keep (source_in f library) in
+    let s : Source = keeping keep (source_of f library) in
     let cells = searched (cells_at 0 library) in
     subst (λ c. All (FitsInto c) patterns) (sym circuit_is)
     (subst (All (FitsInto (circuit_of s))) (sym patterns_are)
     (All-map (FitsInto (circuit_of s)) (cell_pattern s) cells (λ k d lt.
     let cell = get_or cells k d in
-    pattern_fits s (keeping_sound keep (source_in f library) is.source) cell.head (devices_in cell.cards) (cells_among 0 library cell (Contains-get_or cells k d lt)) (is.whole_cells k d lt))))
+    pattern_fits s (keeping_sound keep (source_of f library) is.source) cell.head (devices_in cell.cards) (cells_among 0 library cell (Contains-get_or cells k d lt)) (is.whole_cells k d lt))))
 
 -- the name that is told, where one is none
 pub name_refused : (told : Option (List ℕ)) (keep nets : List (List ℕ)) (s : Source) (library : Library) → nets ≡ nets_of s.devices → IsFound told (find (λ name. not (is_in name nets)) keep)
     → IsRefusal told (base_keeping keep s library)
-name_refused None keep nets s library nets_are first = tt
-name_refused (Some name) keep nets s library nets_are first =
-    ap (λ unknown. unless_unknown unknown (base_of (keeping keep s) library)) ((λ i. find (λ other. not (is_in other (sym nets_are i))) keep) ∙ first)
+name_refused told keep nets s library nets_are first =
+    refused_by told (unknown_keep keep s) (base_of (keeping keep s) library) (subst (λ ns. IsFound told (find (λ name. not (is_in name ns)) keep)) nets_are first)
 
--- an answer that passes a refusal on
-pub refusal_given : (result : Result Base KeepFault) (fault : KeepFault) (wanted : Result Base (List ℕ)) → IsErrAnd result (λ e. e ≡ fault) → IsRefusal (unknown_of fault) wanted → Gives result wanted
-refusal_given (Ok base) fault wanted given refused = absurd given
-refusal_given (Err other) fault wanted given refused = subst (λ f. IsRefusal (unknown_of f) wanted) (sym given) refused
+-- circuit and patterns, where each kept name is a net
+pub base_taken : (keep nets : List (List ℕ)) (s : Source) (library : Library) (base : Base) → nets ≡ nets_of s.devices → find (λ name. not (is_in name nets)) keep ≡ None
+    → base ≡ base_of (keeping keep s) library → base_keeping keep s library ≡ Ok base
+base_taken keep nets s library base nets_are known base_is =
+    let none : unknown_keep keep s ≡ None = subst (λ ns. find (λ name. not (is_in name ns)) keep ≡ None) nets_are known in
+    ap (λ o. or_else o (base_of (keeping keep s) library)) none ∙ ap Ok (sym base_is)

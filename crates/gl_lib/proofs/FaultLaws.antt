@@ -2,17 +2,19 @@
 use Rattle.std.proofs.Common.{◌≡◌, ◌+◌, ◌<◌, ℕ, suc, List, [], ◌∷◌, length, get_or, Bool, false, Option, None, refl, ap, ◌∙◌, arith}
 use Rattle.std.specs.Prelude.{slice_index_or}
 use Rattle.std.proofs.lemmas.Bool.{not_from_true, lt-ltb, eq-eqb}
+use Rattle.std.specs.Option.{option_or}
+use Rattle.gl_fault.specs.Refusals.{when}
 use Rattle.gl_match.specs.Graph.{Device}
 use Rattle.gl_graph.specs.declared.fault.BuildFault.{BuildFault}
 use Rattle.gl_graph.specs.declared.fault.BuildFault.TheVariants.{BadNet}
 use Rattle.gl_graph.specs.Built.{NetsBelow}
-use Rattle.gl_graph.specs.Faults.{fault_if, earlier, first_in, net_fault, device_fault}
+use Rattle.gl_graph.specs.Faults.{first_in, net_fault, device_fault}
 
-pub no_fault : (test : Bool) (fault : BuildFault) → test ≡ false → fault_if test fault ≡ None
-no_fault test fault e = ap (λ b. fault_if b fault) e
+pub no_fault : (test : Bool) (fault : BuildFault) → test ≡ false → when test fault ≡ None
+no_fault test fault e = ap (λ b. when b fault) e
 
-pub neither_fault : (a b : Option BuildFault) → a ≡ None → b ≡ None → earlier a b ≡ None
-neither_fault a b x y = ap (λ f. earlier f b) x ∙ y
+pub neither_fault : (a b : Option BuildFault) → a ≡ None → b ≡ None → option_or a b ≡ None
+neither_fault a b x y = ap (λ f. option_or f b) x ∙ y
 
 pub none_in : {X : Type 0} (fault : ℕ → X → Option BuildFault) (n : ℕ) (xs : List X) → ((k : ℕ) (d : X) → k < length xs → fault (n + k) (get_or xs k d) ≡ None) → first_in fault n xs ≡ None
 none_in fault n [] h = refl

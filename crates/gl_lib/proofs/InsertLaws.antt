@@ -144,10 +144,6 @@ nodes_done value keys devices i past done =
     let all : keys ≡ insert_all same_text [] (flat_map (λ (c : Card). c.nodes) (map value devices)) = ap (λ ds. insert_all same_text keys (flat_map (λ (c : Card). c.nodes) (map value ds))) (sym none) ∙ done in
     names_inserted [] keys (flat_map (λ (c : Card). c.nodes) (map value devices)) refl all
 
--- a name that is there has a number
-pub number_there : (names : List (List ℕ)) (name : List ℕ) (found : Option ℕ) → found ≡ position (same_text name) names → is_in name names ≡ true → found ≡ Some (position_or_len (same_text name) names)
-number_there names name found e h = e ∙ position_there same_text text.exact text.itself names name (there same_text text.exact text.itself names name h)
-
 -- `0` and then the other rails
 pub rails_are_all : (start first keys rails : List (List ℕ)) (zero_name : List ℕ) → start ≡ [] → zero_name ≡ zero_rail → first ≡ insert_all same_text start (zero_name ∷ []) → keys ≡ insert_all same_text first rails → AreRails rails → keys ≡ all_rails rails
 rails_are_all start first keys rails zero_name empty zero_is one rest are =

@@ -4,7 +4,7 @@ use Rattle.std.specs.Prelude.{codes, Result}
 use Rattle.gl_text.specs.Decks.{Deck, read_deck}
 use Rattle.gl_text.specs.Flattening.{Flat, flatten}
 use Rattle.gl_base.specs.Libraries.{Library, read_library}
-use Rattle.gl_flat.specs.Numbered.{numbered}
+use Rattle.gl_flat.specs.PlainFlats.{plain}
 use Rattle.gl_lib.specs.Sources.{AreSound}
 use Rattle.gl_lib.specs.Samples.{sample_deck, sample_file, inverter_file, inverter_library}
 
@@ -19,12 +19,12 @@ no_deck = record { title = []; globals = []; models = []; subs = []; top = []; p
 abbrev no_flat : Flat
 no_flat = record { title = []; rails = []; models = []; top = None; devices = []; passed = [] }
 
-pub sample_is : (deck : Deck) (flat : Flat) → read_deck true sample_file ≡ Ok deck → flatten deck deck.globals (Some (codes "top")) ≡ Ok flat → numbered flat ≡ sample_deck
+pub sample_is : (deck : Deck) (flat : Flat) → read_deck true sample_file ≡ Ok deck → flatten deck deck.globals (Some (codes "top")) ≡ Ok flat → plain flat ≡ sample_deck
 sample_is deck flat d f =
     let deck_is : value no_deck (read_deck true sample_file) ≡ deck = ap (value no_deck) d in
     let flat_is : value no_flat (flatten (value no_deck (read_deck true sample_file)) (value no_deck (read_deck true sample_file)).globals (Some (codes "top"))) ≡ flat =
     ap (value no_flat) ((λ i. flatten (deck_is i) (deck_is i).globals (Some (codes "top"))) ∙ f) in
-    ap numbered (sym flat_is)
+    ap plain (sym flat_is)
 
 inverter_sound : AreSound sample_deck inverter_library
 inverter_sound = search rules

@@ -4,7 +4,7 @@ use Rattle.std.specs.List.{list_any}
 use Rattle.gl_text.specs.Cards.{Device as Card}
 use Rattle.gl_text.specs.Decks.{is_in}
 use Rattle.gl_base.specs.TypeNames.{TypeName, same_type}
-use Rattle.gl_flat.specs.Numbered.{NumberedDevice}
+use Rattle.gl_flat.specs.Kept.{KeptDevice}
 use Rattle.gl_lib.specs.Sources.{type_of_flat}
 
 -- the names are among the nets
@@ -17,5 +17,5 @@ pub record IsNumbered (type : Card → TypeName) (types : List TypeName) (nets :
   pub nodes : AreNets nets card.nodes
 
 -- the type of a flat device is among the types
-abbrev pub IsAmongTypes : (Card → TypeName) → List TypeName → NumberedDevice → Type 0
+abbrev pub IsAmongTypes : (Card → TypeName) → List TypeName → KeptDevice → Type 0
 IsAmongTypes type types d = list_any (same_type (type_of_flat type d)) types ≡ true

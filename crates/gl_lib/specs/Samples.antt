@@ -1,21 +1,47 @@
 -- A flat deck and a library on which the definitions are computed.
-use Rattle.std.specs.Prelude.{ℕ, List, [], ◌∷◌, None, Some, codes}
-use Rattle.gl_text.specs.Decks.{Sub, dev_at}
+use Rattle.std.specs.Prelude.{ℕ, List, [], ◌∷◌, None, Some, map, codes}
+use Rattle.gl_text.specs.Cards.{Device as Card, Model, Head}
+use Rattle.gl_text.specs.Decks.{Body, Sub, dev_at}
+use Rattle.gl_text.specs.Flattening.{Flat}
 use Rattle.gl_base.specs.Libraries.{Library, loose}
-use Rattle.gl_base.specs.Rows.{resistor, transistor, model, inverter_head, inverter_sub, cards_at_one}
-use Rattle.gl_flat.specs.Numbered.{Numbered}
+use Rattle.gl_flat.specs.PlainFlats.{plain_device}
+
+-- cards: a transistor, a resistor, a model
+abbrev pub transistor : List ℕ → List ℕ → List ℕ → List ℕ → List ℕ → List ℕ → Card
+transistor name drain gate source bulk model = record { name = name; nodes = drain ∷ gate ∷ source ∷ bulk ∷ []; model = Some model; tail = [] }
+
+abbrev pub resistor : List ℕ → List ℕ → List ℕ → Card
+resistor name first second = record { name = name; nodes = first ∷ second ∷ []; model = None; tail = [] }
+
+abbrev pub model : List ℕ → List ℕ → Model
+model name word = record { name = name; word = word; tail = [] }
+
+-- devices as cards of a line
+abbrev pub cards_at_one : List Card → List Body
+cards_at_one devices = map (λ d. dev_at 1 d) devices
+
+-- an inverter from a to y
+abbrev pub inverter_head : Head
+inverter_head = record { name = codes "inv"; ports = codes "a" ∷ codes "y" ∷ [] }
+
+abbrev pub inverter_sub : Sub
+inverter_sub = record {
+  line = 1;
+  head = inverter_head;
+  cards = cards_at_one (transistor (codes "mp") (codes "y") (codes "a") (codes "vdd") (codes "vdd") (codes "pch")
+      ∷ transistor (codes "mn") (codes "y") (codes "a") (codes "0") (codes "0") (codes "nch") ∷ []);
+}
 
 -- an inverter from `in` to `out` and a resistor; ports are `in`, the rail `vdd`, and `nc`, which stands on no device, as the rail `w` does
-abbrev pub sample_deck : Numbered
+abbrev pub sample_deck : Flat
 sample_deck = record {
   title = [];
   rails = codes "vdd" ∷ codes "w" ∷ [];
   models = model (codes "nch") (codes "nmos") ∷ [];
   top = Some (record { name = codes "top"; ports = codes "in" ∷ codes "vdd" ∷ codes "nc" ∷ [] });
-  nets = codes "out" ∷ codes "in" ∷ codes "vdd" ∷ codes "0" ∷ [];
-  devices = record { name = codes "m1"; nodes = 0 ∷ 1 ∷ 2 ∷ 2 ∷ []; model = Some (codes "pch"); tail = [] }
-      ∷ record { name = codes "m2"; nodes = 0 ∷ 1 ∷ 3 ∷ 3 ∷ []; model = Some (codes "nch"); tail = [] }
-      ∷ record { name = codes "r1"; nodes = 0 ∷ 3 ∷ []; model = None; tail = [] } ∷ [];
+  devices = map plain_device (transistor (codes "m1") (codes "out") (codes "in") (codes "vdd") (codes "vdd") (codes "pch")
+      ∷ transistor (codes "m2") (codes "out") (codes "in") (codes "0") (codes "0") (codes "nch")
+      ∷ resistor (codes "r1") (codes "out") (codes "0") ∷ []);
   passed = [];
 }
 

@@ -2,7 +2,8 @@ ghost use Rattle.std.specs.Prelude.{◌≡◌, All, IfOk};
 ghost use Rattle.gl_match.specs.Graph.{FitsInto};
 ghost use Rattle.gl_base.specs.Keeping.{keeping, base_of, base_keeping};
 ghost use Rattle.gl_lib.specs.Kept.{Gives};
-ghost use Rattle.gl_lib.specs.Sources.{AreSound, source_in};
+ghost use Rattle.gl_base.specs.Rounds as rounds;
+ghost use Rattle.gl_lib.specs.Sources.{AreSound};
 ghost use Rattle.gl_lib.specs.Tables.{ArePartsSound, AreTablesOf, source_of};
 
 use crate::building::{build_circuit, build_patterns};
@@ -77,7 +78,8 @@ fn build_base(
 /// no net of a device, by the first such name, or for want of memory. A name may be kept more than once, and any number of
 /// names may be.
 ///
-/// It takes time linear in the devices' places and the kept names, and copies the name of each net and each pinned name once.
+/// It takes time linear in the devices' places and the kept names, and copies each pinned name once. Nets keep the numbers
+/// that they have in the flat deck.
 pub fn circuit_of(
     alloc: Global,
     flat: &Flat,
@@ -85,12 +87,12 @@ pub fn circuit_of(
     keep: &[Name],
 ) -> Result<Base, KeepFault>
     requires { AreSound flat.now library.now }
-    ensures gives { Gives result (base_keeping keep.now (source_in flat.now library.now) library.now) }
+    ensures gives { Gives result (base_keeping keep.now (rounds.source_of flat.now library.now) library.now) }
     ensures fits { IfOk result (λ base. All (FitsInto base.circuit) base.patterns) }
 {
     let parts = Parts { flat, library };
     let tables = tables_of(alloc, &parts)?;
-    refuse_unknown(alloc, &tables.nets, keep)?;
+    refuse_unknown(alloc, flat.nets(), keep)?;
     let base = build_base(alloc, &parts, &tables, keep)?;
     Ok(base)
 }

@@ -11,7 +11,7 @@ ghost use Rattle.gl_lib.specs.Tables.{ArePartsSound, AreTablesOf, source_of};
 
 use crate::cells::{cards_of, searched_cells};
 use crate::devices::{devices_of, flat_devices, numbers_of};
-use crate::names::Names;
+use crate::names::{name_table, net_table};
 use crate::parts::Parts;
 use crate::pinned::pinned_nets;
 use crate::roles::{rail_nets, roles_of};
@@ -47,9 +47,9 @@ fn build_pattern(
     requires whole { IsCellOf head.now (map (λ c. c.now) cards.now) }
     ensures pattern { IfOk result (λ p. p ≡ pattern_of (source_of parts.now) head.now (map (λ c. c.now) cards.now)) }
 {
-    let nets = Names::of_nets(alloc, cards)?;
+    let nets = net_table(alloc, cards)?;
     let port_names = head.ports();
-    let ports = Names::of(alloc, port_names)?;
+    let ports = name_table(alloc, port_names)?;
     let devices = devices_of(alloc, &tables.words, &tables.kinds, &nets, cards)?;
     let roles = roles_of(alloc, &tables.rails, &ports, nets.items())?;
     let port_nets = numbers_of(alloc, &nets, port_names)?;
@@ -113,7 +113,7 @@ pub fn build_circuit(
     ensures circuit { IfOk result (λ c. c ≡ circuit_of (keeping keep.now (source_of parts.now))) }
 {
     let flat = parts.flat;
-    let nets = &tables.nets;
+    let nets = flat.nets();
     let devices = flat_devices(alloc, &tables.words, &tables.kinds, flat.devices())?;
     let rails = rail_nets(alloc, tables.rails.items(), nets)?;
     let pinned = pinned_nets(alloc, flat.top(), keep, nets)?;

@@ -7,10 +7,9 @@ ghost use Rattle.gl_lib.specs.Numbered.{AreNets, IsNumbered, IsAmongTypes};
 ghost use Rattle.gl_lib.specs.Sources.{device_of_flat};
 
 use crate::kinds::Kinds;
-use crate::names::Names;
 use crate::words::{Words, flat_type, type_of};
 use gl_card::{DevCard, Name};
-use gl_flat::FlatDevice;
+use gl_flat::{KeptDevice, Names};
 use gl_graph::{Device, NetId};
 use std::alloc::{AllocError, Global};
 
@@ -65,13 +64,13 @@ fn flat_device(
     alloc: Global,
     words: &Words,
     kinds: &Kinds,
-    device: &FlatDevice,
+    device: &KeptDevice,
 ) -> Result<Device, AllocError>
     requires { IsAmongTypes (type_by (get same_text words.now)) kinds.now device.now }
     ensures device { IfOk result (λ made. made ≡ device_of_flat (type_by (get same_text words.now)) kinds.now device.now) }
 {
     let kind = kinds.number(&flat_type(alloc, words, device)?);
-    let nets = device.nodes().iter().map(|net| NetId(*net)).collect(alloc)?;
+    let nets = device.nets().iter().map(|net| NetId(*net)).collect(alloc)?;
     Ok(Device { kind, nets })
 }
 
@@ -80,7 +79,7 @@ pub fn flat_devices(
     alloc: Global,
     words: &Words,
     kinds: &Kinds,
-    flat: &[FlatDevice],
+    flat: &[KeptDevice],
 ) -> Result<Vec<Device>, AllocError>
     requires { All (IsAmongTypes (type_by (get same_text words.now)) kinds.now) flat.now }
     ensures devices { IfOk result (λ devices. devices.items ≡ map (device_of_flat (type_by (get same_text words.now)) kinds.now) flat.now) }

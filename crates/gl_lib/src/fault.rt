@@ -1,7 +1,7 @@
 ghost use Rattle.std.specs.Prelude.{◌≡◌};
 ghost use Rattle.gl_lib.specs.declared.fault.KeepFault.TheVariants.{Memory as NoMemory};
 
-use gl_card::Name;
+use gl_card::{Memory, Name};
 use std::alloc::{AllocError, AllocFailed};
 use thiserror::Error;
 
@@ -31,6 +31,14 @@ impl<T: Drop> From<AllocFailed<T>> for KeepFault {
     ghost from_gives = { λ _ e. e ≡ NoMemory };
 
     fn from(_: AllocFailed<T>) -> Self {
+        KeepFault::Memory
+    }
+}
+
+impl From<Memory> for KeepFault {
+    ghost from_gives = { λ _ e. e ≡ NoMemory };
+
+    fn from(_: Memory) -> Self {
         KeepFault::Memory
     }
 }

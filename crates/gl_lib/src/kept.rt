@@ -2,11 +2,12 @@
 ghost use Rattle.std.specs.Prelude.{◌≡◌, not, find, None, OnOk, IfErr};
 ghost use Rattle.std.specs.Option.{option_copied};
 ghost use Rattle.gl_text.specs.Decks.{is_in};
-ghost use Rattle.gl_lib.specs.Kept.{IsFound, unknown_of};
+ghost use Rattle.gl_fault.specs.Refusals.{IsFound};
+ghost use Rattle.gl_lib.specs.Kept.{unknown_of};
 
 use crate::fault::KeepFault;
-use crate::names::Names;
 use gl_card::Name;
+use gl_flat::Names;
 use std::alloc::Global;
 
 /// The first of some names that is not among the nets.

@@ -14,7 +14,7 @@ use crate::type_name::TypeName;
 use crate::words::{Words, flat_type, type_of};
 use gl_card::DevCard;
 use gl_cells::Sub;
-use gl_flat::FlatDevice;
+use gl_flat::KeptDevice;
 use gl_graph::{Shape, TypeId};
 use indexmap::IndexSet;
 use std::alloc::{AllocError, Global};
@@ -42,7 +42,7 @@ fn add_flat_types(
     alloc: Global,
     set: &mut IndexSet<TypeName>,
     words: &Words,
-    devices: &[FlatDevice],
+    devices: &[KeptDevice],
 ) -> Result<(), AllocError>
     ensures added { OnOk result (set.new.keys ≡ insert_all same_type set.old.keys (map (flat.type_of_flat (type_by (get same_text words.now))) devices.now)) }
 {
@@ -100,7 +100,7 @@ impl Kinds {
     pub fn of(
         alloc: Global,
         words: &Words,
-        devices: &[FlatDevice],
+        devices: &[KeptDevice],
         cells: &[Sub],
     ) -> Result<Kinds, AllocError>
         requires { length devices.now + length (cards_of_cells cells.now) < 2 ^ 32 }

@@ -12,10 +12,10 @@ ghost use Rattle.gl_base.specs.TypeNames.{classes_of};
 ghost use Rattle.gl_base.specs.BaseCircuit.{Source, circuit_of, types_of};
 ghost use Rattle.gl_base.specs.Patterns.{pattern_of, IsSound};
 ghost use Rattle.gl_base.specs.Libraries.{Library, read_library};
-ghost use Rattle.gl_base.specs.Rounds.{cells_at, searched, cell_pattern};
+ghost use Rattle.gl_base.specs.Rounds.{source_of, cells_at, searched, cell_pattern};
 ghost use Rattle.gl_base.specs.Keeping.{base_of, base_keeping};
-ghost use Rattle.gl_flat.specs.Numbered.{numbered};
-ghost use Rattle.gl_lib.specs.Sources.{AreSound, source_in};
+ghost use Rattle.gl_flat.specs.PlainFlats.{plain};
+ghost use Rattle.gl_lib.specs.Sources.{AreSound};
 ghost use Rattle.gl_lib.specs.Samples.{sample_deck, sample_library, sample_file, inverter_file};
 ghost use Rattle.gl_printed.specs.ReadCards.{IsFine};
 ghost use Rattle.gl_printed.specs.FlatDecks.{AreRails};
@@ -42,14 +42,14 @@ pub fn run_rails_are_fine()
 /// port that is a rail, a cell named as a letter, and ports of the deck that pin nets.
 pub fn base_rows()
     ensures sound { AreSound sample_deck sample_library }
-    ensures circuit { circuit_of (source_in sample_deck sample_library) ≡ record {
+    ensures circuit { circuit_of (source_of sample_deck sample_library) ≡ record {
       shapes = (0 ∷ 1 ∷ 0 ∷ 2 ∷ []) ∷ (0 ∷ 1 ∷ 0 ∷ 2 ∷ []) ∷ (0 ∷ 0 ∷ []) ∷ (0 ∷ 1 ∷ []) ∷ (0 ∷ 0 ∷ []) ∷ [];
       devices = record { kind = 0; nets = 0 ∷ 1 ∷ 2 ∷ 2 ∷ [] } ∷ record { kind = 1; nets = 0 ∷ 1 ∷ 3 ∷ 3 ∷ [] } ∷ record { kind = 2; nets = 0 ∷ 3 ∷ [] } ∷ [];
       nets = 4;
       rails = Some 3 ∷ Some 2 ∷ None ∷ [];
       pinned = 1 ∷ 2 ∷ [];
     } }
-    ensures patterns { map (cell_pattern (source_in sample_deck sample_library)) (searched (cells_at 0 sample_library)) ≡ record {
+    ensures patterns { map (cell_pattern (source_of sample_deck sample_library)) (searched (cells_at 0 sample_library)) ≡ record {
       devices = record { kind = 0; nets = 0 ∷ 1 ∷ 2 ∷ 2 ∷ [] } ∷ record { kind = 1; nets = 0 ∷ 1 ∷ 3 ∷ 3 ∷ [] } ∷ [];
       roles = Port 1 ∷ Port 0 ∷ Rail 1 ∷ Rail 0 ∷ [];
       ports = 1 ∷ 0 ∷ [];
@@ -62,7 +62,7 @@ pub fn base_rows()
 
 /// The same deck with kept names: `0`, two nets, a port of the top that pins its net anyway, a name given twice, and names that are unknown.
 pub fn kept_base_rows()
-    ensures kept { base_keeping (codes "0" ∷ codes "out" ∷ codes "in" ∷ codes "0" ∷ []) (source_in sample_deck sample_library) sample_library ≡ Ok (record {
+    ensures kept { base_keeping (codes "0" ∷ codes "out" ∷ codes "in" ∷ codes "0" ∷ []) (source_of sample_deck sample_library) sample_library ≡ Ok (record {
       circuit = record {
         shapes = (0 ∷ 1 ∷ 0 ∷ 2 ∷ []) ∷ (0 ∷ 1 ∷ 0 ∷ 2 ∷ []) ∷ (0 ∷ 0 ∷ []) ∷ (0 ∷ 1 ∷ []) ∷ (0 ∷ 0 ∷ []) ∷ [];
         devices = record { kind = 0; nets = 0 ∷ 1 ∷ 2 ∷ 2 ∷ [] } ∷ record { kind = 1; nets = 0 ∷ 1 ∷ 3 ∷ 3 ∷ [] } ∷ record { kind = 2; nets = 0 ∷ 3 ∷ [] } ∷ [];
@@ -70,16 +70,16 @@ pub fn kept_base_rows()
         rails = Some 3 ∷ Some 2 ∷ None ∷ [];
         pinned = 1 ∷ 2 ∷ 3 ∷ 0 ∷ [];
       };
-      patterns = map (cell_pattern (source_in sample_deck sample_library)) (searched (cells_at 0 sample_library));
+      patterns = map (cell_pattern (source_of sample_deck sample_library)) (searched (cells_at 0 sample_library));
     }) }
-    ensures none_kept { base_keeping [] (source_in sample_deck sample_library) sample_library ≡ Ok (base_of (source_in sample_deck sample_library) sample_library) }
-    ensures first_unknown { base_keeping (codes "out" ∷ codes "nosuch" ∷ codes "in" ∷ codes "nc" ∷ []) (source_in sample_deck sample_library) sample_library ≡ Err (codes "nosuch") }
-    ensures port_on_no_device { base_keeping (codes "vdd" ∷ codes "nc" ∷ codes "nosuch" ∷ []) (source_in sample_deck sample_library) sample_library ≡ Err (codes "nc") }
-    ensures rail_on_no_device { base_keeping (codes "w" ∷ codes "nc" ∷ []) (source_in sample_deck sample_library) sample_library ≡ Err (codes "w") }
+    ensures none_kept { base_keeping [] (source_of sample_deck sample_library) sample_library ≡ Ok (base_of (source_of sample_deck sample_library) sample_library) }
+    ensures first_unknown { base_keeping (codes "out" ∷ codes "nosuch" ∷ codes "in" ∷ codes "nc" ∷ []) (source_of sample_deck sample_library) sample_library ≡ Err (codes "nosuch") }
+    ensures port_on_no_device { base_keeping (codes "vdd" ∷ codes "nc" ∷ codes "nosuch" ∷ []) (source_of sample_deck sample_library) sample_library ≡ Err (codes "nc") }
+    ensures rail_on_no_device { base_keeping (codes "w" ∷ codes "nc" ∷ []) (source_of sample_deck sample_library) sample_library ≡ Err (codes "w") }
 {}
 
 /// The deck of the rows is that of a file, and circuit and patterns are made of it and of the library of another.
 pub fn sample_files_are_sound()
-    ensures deck { (deck : Deck) (flat : Flat) → read_deck true sample_file ≡ Ok deck → flatten deck deck.globals (Some (codes "top")) ≡ Ok flat → numbered flat ≡ sample_deck }
+    ensures deck { (deck : Deck) (flat : Flat) → read_deck true sample_file ≡ Ok deck → flatten deck deck.globals (Some (codes "top")) ≡ Ok flat → plain flat ≡ sample_deck }
     ensures library { (library : Library) → read_library inverter_file ≡ Ok library → AreSound sample_deck library }
 {}

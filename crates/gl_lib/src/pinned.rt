@@ -5,8 +5,9 @@ ghost use Rattle.gl_text.specs.LogicalLines.{same_text};
 ghost use Rattle.gl_text.specs.Decks.{once};
 ghost use Rattle.gl_text.specs.Flattening.{top_ports};
 
-use crate::names::{Names, add_names};
+use crate::names::add_names;
 use gl_card::{Head, Name};
+use gl_flat::Names;
 use gl_graph::NetId;
 use indexmap::IndexSet;
 use std::alloc::{AllocError, Global};

@@ -3,7 +3,7 @@ ghost use Rattle.gl_text.specs.LogicalLines.{same_text};
 ghost use Rattle.gl_base.specs.Rails.{run_rails as rails_of_run, AreRails};
 
 use crate::names::add_names;
-use gl_card::Name;
+use gl_card::{Memory, Name};
 use indexmap::IndexSet;
 use std::alloc::{AllocError, Global};
 
@@ -22,7 +22,7 @@ pub fn run_rails(
     alloc: Global,
     deck_globals: &[Name],
     library_globals: &[Name],
-) -> Result<Vec<Name>, AllocError>
+) -> Result<Vec<Name>, Memory>
     ensures rails { IfOk result (λ rails. rails.items ≡ rails_of_run deck_globals.now library_globals.now) }
     ensures differ { IfOk result (λ rails. AreRails rails.items) }
     ensures few { IfOk result (λ rails. length rails.items ≤ length deck_globals.now + length library_globals.now) }

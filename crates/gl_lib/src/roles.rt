@@ -2,8 +2,8 @@ ghost use Rattle.std.specs.Prelude.{◌≡◌, map, position, Option, IfOk};
 ghost use Rattle.gl_text.specs.LogicalLines.{same_text};
 ghost use Rattle.gl_base.specs.Patterns.{role_by};
 
-use crate::names::Names;
 use gl_card::Name;
+use gl_flat::Names;
 use gl_graph::{NetId, Role};
 use std::alloc::{AllocError, Global};
 

@@ -2,9 +2,10 @@ ghost use Rattle.std.specs.Prelude.{◌≡◌, IfOk};
 ghost use Rattle.gl_lib.specs.Tables.{ArePartsSound, AreTablesOf, source_of};
 
 use crate::kinds::Kinds;
-use crate::names::Names;
+use crate::names::rail_table;
 use crate::parts::Parts;
 use crate::words::{Words, words_of};
+use gl_flat::Names;
 use std::alloc::{AllocError, Global};
 
 /// The tables in which names are looked up.
@@ -16,8 +17,6 @@ pub struct Tables {
     pub kinds: Kinds,
     /// The rails, by their numbers; `0` is the first.
     pub rails: Names,
-    /// The nets of the deck, by their numbers.
-    pub nets: Names,
 }
 
 /// The tables of a base.
@@ -30,12 +29,10 @@ pub fn tables_of(alloc: Global, parts: &Parts) -> Result<Tables, AllocError>
     let words = words_of(alloc, flat.models(), library.models())?;
     let subs = library.subs().values().as_slice();
     let kinds = Kinds::of(alloc, &words, flat.devices(), subs)?;
-    let rails = Names::of_rails(alloc, flat.rails())?;
-    let nets = Names::of(alloc, flat.nets())?;
+    let rails = rail_table(alloc, flat.rails())?;
     Ok(Tables {
         words,
         kinds,
         rails,
-        nets,
     })
 }

@@ -9,7 +9,7 @@ ghost use Rattle.gl_lib.specs.Sources as flat;
 
 use crate::type_name::TypeName;
 use gl_card::{DevCard, Letter, ModelCard, Name};
-use gl_flat::FlatDevice;
+use gl_flat::KeptDevice;
 use indexmap::IndexMap;
 use std::alloc::{AllocError, Global};
 
@@ -20,7 +20,7 @@ pub type Words = IndexMap<Name, Name>;
 fn copy_of(alloc: Global, name: &Name) -> Result<Name, AllocError>
     ensures name { IfOk result (λ copy. copy ≡ name.now) }
 {
-    Name::of(alloc, name.as_bytes())
+    Ok(Name::of(alloc, name.as_bytes())?)
 }
 
 /// Notes the type word of a model, if none of its name was noted before.
@@ -85,8 +85,8 @@ pub fn type_of(alloc: Global, words: &Words, card: &DevCard) -> Result<TypeName,
 }
 
 /// The type of a flat device.
-pub fn flat_type(alloc: Global, words: &Words, device: &FlatDevice) -> Result<TypeName, AllocError>
+pub fn flat_type(alloc: Global, words: &Words, device: &KeptDevice) -> Result<TypeName, AllocError>
     ensures kind { IfOk result (λ kind. kind ≡ flat.type_of_flat (type_by (get same_text words.now)) device.now) }
 {
-    type_with(alloc, words, device.letter, device.model())
+    type_with(alloc, words, device.letter(), device.model())
 }

@@ -1,13 +1,15 @@
--- The searched cells of a library without X cards are whole.
-use Rattle.std.proofs.Common.{◌≡◌, ◌<◌, ℕ, List, [], ◌∷◌, ◌++◌, length, map, cond, true, false, Bool, Option, Some, None, refl, sym, ap, ◌∙◌, subst, arith, flat_map}
+-- The searched cells of level 0 of a library that was read are whole.
+use Rattle.std.proofs.Common.{◌≡◌, ◌<◌, ℕ, suc, List, [], ◌∷◌, ◌++◌, length, map, cond, true, false, Bool, Option, Some, None, refl, sym, ap, ◌∙◌, subst, arith, flat_map}
 use Rattle.std.specs.Prelude.{filter, filter_map, zip, find, not, ◌&&◌, All, ◌==◌, option_map}
 use Rattle.std.specs.List.{list_all, AllByRecursion}
+use Rattle.std.proofs.lemmas.Bool.{eqb-true}
 use Rattle.std.proofs.lemmas.List.Elements.{All-from_recursion, recursion_from_All}
 use Rattle.gl_text.specs.Cards.{Device}
-use Rattle.gl_text.specs.Decks.{Body, dev_at, call_at, Sub, is_in}
-use Rattle.gl_text.specs.CellCards.{devices_in, call_line, earlier, earliest, is_on_card}
-use Rattle.gl_base.specs.Libraries.{Skip, loose, Cell, cell_of, skip_of, own_skip, uses_else, empty_else, loose_port, nodes_of}
+use Rattle.gl_text.specs.Decks.{Body, dev_at, call_at, Sub, is_in, callees, find_sub}
+use Rattle.gl_text.specs.CellCards.{devices_in, call_line, is_on_card}
+use Rattle.gl_base.specs.Libraries.{greatest, above, level_through, level_of, Skip, loose, Cell, cell_of, skip_of, own_skip, uses_else, empty_else, loose_port, nodes_of}
 use Rattle.gl_base.specs.Rounds.{is_searched}
+use Rattle.gl_printed.specs.ReadDecks.{FindsSubWithin, IsReadSub}
 use Rattle.gl_printed.proofs.Each.{each_both, each_filter, each_map, each_passes}
 use Rattle.gl_known.specs.Known.{IsKnownSub}
 use Rattle.gl_lib.specs.Sources.{IsWhole}
@@ -18,24 +20,18 @@ use Rattle.gl_lib.specs.Sources.{IsWhole}
 abbrev pub NoCalls : List Body → Type 0
 NoCalls cards = filter_map call_line cards ≡ []
 
-some_earlier : (line : ℕ) (others : Option ℕ) → earlier (Some line) others ≡ None → ⊥
-some_earlier line None h = absurd cc
-some_earlier line (Some other) h = absurd cc
+-- what cards call has a level, where it is there
+some_level : (level : Sub → ℕ) (subs : List Sub) (name : List ℕ) (cards : List Body) → AllByRecursion (FindsSubWithin subs name) cards
+    → greatest (map (λ n. above level (find_sub subs n)) (callees cards)) ≡ 0 → NoCalls cards
+some_level level subs name [] h e = refl
+some_level level subs name (dev_at line d ∷ cards) h e = some_level level subs name cards h.1 e
+some_level level subs name (call_at line c ∷ cards) h e =
+    let up : above level (find_sub subs c.sub) ≡ suc (level h.0.0) = ap (above level) h.0.1.found in
+    absurd (omega (arith, e, up))
 
-none_first : (lines : List ℕ) → earliest lines ≡ None → lines ≡ []
-none_first [] h = refl
-none_first (line ∷ lines) h = absurd (some_earlier line (earliest lines) h)
-
-both_empty : {A : Type 0} (xs ys : List A) → xs ++ ys ≡ [] → (xs ≡ []) × (ys ≡ [])
-both_empty [] ys h = (refl, h)
-both_empty (x ∷ xs) ys h = absurd cc
-
-each_without : (ss : List Sub) → flat_map (λ (s : Sub). filter_map call_line s.cards) ss ≡ [] → AllByRecursion (λ (s : Sub). NoCalls s.cards) ss
-each_without [] h = tt
-each_without (s ∷ ss) h = let p = both_empty (filter_map call_line s.cards) (flat_map (λ (s : Sub). filter_map call_line s.cards) ss) h in (p.0, each_without ss p.1)
-
-pub without_calls : (ss : List Sub) → earliest (flat_map (λ (s : Sub). filter_map call_line s.cards) ss) ≡ None → AllByRecursion (λ (s : Sub). NoCalls s.cards) ss
-without_calls ss h = each_without ss (none_first (flat_map (λ (s : Sub). filter_map call_line s.cards) ss) h)
+-- a subcircuit of level 0, of a deck that has one, has no X card
+none_called : (subs : List Sub) (k : ℕ) (s : Sub) → length subs ≡ suc k → IsReadSub subs s → level_of subs s ≡ 0 → NoCalls s.cards
+none_called subs k s n read e = some_level (level_through subs k) subs s.head.name s.cards read.calls (sym (ap (λ m. level_through subs m s) n) ∙ e)
 
 -- ---- cards without X cards are devices
 
@@ -85,18 +81,26 @@ searched_none (Some skip) h = absurd cc
 -- ---- all of them
 
 abbrev WholeIfSearched : Sub × Cell → Type 0
-WholeIfSearched c = is_searched c.1.skip ≡ true → IsWhole c.0
+WholeIfSearched c = (c.1.level == 0) ≡ true → is_searched c.1.skip ≡ true → IsWhole c.0
 
-each_whole : (all ss : List Sub) → AllByRecursion IsKnownSub ss → AllByRecursion (λ (s : Sub). NoCalls s.cards) ss → AllByRecursion WholeIfSearched (zip ss (map (cell_of all) ss))
-each_whole all [] h n = tt
-each_whole all (s ∷ ss) h n = (λ e. cell_whole all s h.0 n.0 (searched_none (skip_of all s) e), each_whole all ss h.1 n.1)
+each_whole : (all : List Sub) (k : ℕ) → length all ≡ suc k → (ss : List Sub) → AllByRecursion IsKnownSub ss → AllByRecursion (IsReadSub all) ss → AllByRecursion WholeIfSearched (zip ss (map (cell_of all) ss))
+each_whole all k n [] h r = tt
+each_whole all k n (s ∷ ss) h r =
+    (λ low e. cell_whole all s h.0 (none_called all k s n r.0 (eqb-true (level_of all s) 0 low)) (searched_none (skip_of all s) e), each_whole all k n ss h.1 r.1)
 
-pub cells_whole : (ss : List Sub) → All IsKnownSub ss → AllByRecursion (λ (s : Sub). NoCalls s.cards) ss
-    → All IsWhole (map (λ (c : Sub × Cell). c.0) (filter (λ (c : Sub × Cell). is_searched c.1.skip) (filter (λ (c : Sub × Cell). c.1.level == 0) (zip ss (map (cell_of ss) ss)))))
-cells_whole ss h n =
+all_whole : (subs ss : List Sub) → subs ≡ ss → AllByRecursion IsKnownSub subs → AllByRecursion (IsReadSub subs) subs → AllByRecursion WholeIfSearched (zip subs (map (cell_of subs) subs))
+all_whole subs [] e h r = subst (λ (ss : List Sub). AllByRecursion WholeIfSearched (zip ss (map (cell_of ss) ss))) (sym e) tt
+all_whole subs (s ∷ ss) e h r = each_whole subs (length ss) (ap length e) subs h r
+
+pub cells_whole : (subs : List Sub) → All IsKnownSub subs → AllByRecursion (IsReadSub subs) subs
+    → All IsWhole (map (λ (c : Sub × Cell). c.0) (filter (λ (c : Sub × Cell). is_searched c.1.skip) (filter (λ (c : Sub × Cell). c.1.level == 0) (zip subs (map (cell_of subs) subs)))))
+cells_whole subs h r =
     let level : Sub × Cell → Bool = λ c. c.1.level == 0 in
     let test : Sub × Cell → Bool = λ c. is_searched c.1.skip in
-    let cells = filter level (zip ss (map (cell_of ss) ss)) in
-    let each = each_filter WholeIfSearched level (zip ss (map (cell_of ss) ss)) (each_whole ss ss (recursion_from_All IsKnownSub ss h) n) in
-    let passing = each_both WholeIfSearched (λ c. test c ≡ true) (λ c. IsWhole c.0) (λ c w t. w t) (filter test cells) (each_filter WholeIfSearched test cells each) (each_passes test cells) in
-    All-from_recursion IsWhole (map (λ (c : Sub × Cell). c.0) (filter test cells)) (each_map IsWhole (λ (c : Sub × Cell). c.0) (filter test cells) passing)
+    let all = zip subs (map (cell_of subs) subs) in
+    let each = each_filter WholeIfSearched level all (all_whole subs subs refl (recursion_from_All IsKnownSub subs h) r) in
+    let low = each_both WholeIfSearched (λ c. level c ≡ true) (λ c. test c ≡ true → IsWhole c.0) (λ c w t. w t) (filter level all) each (each_passes level all) in
+    let found = filter test (filter level all) in
+    let passing = each_both (λ (c : Sub × Cell). test c ≡ true → IsWhole c.0) (λ c. test c ≡ true) (λ c. IsWhole c.0) (λ c w t. w t) found
+    (each_filter (λ (c : Sub × Cell). test c ≡ true → IsWhole c.0) test (filter level all) low) (each_passes test (filter level all)) in
+    All-from_recursion IsWhole (map (λ (c : Sub × Cell). c.0) found) (each_map IsWhole (λ (c : Sub × Cell). c.0) found passing)

@@ -1,12 +1,12 @@
 -- What a flat deck has of its deck.
 use Rattle.std.proofs.Common.{◌≡◌, ◌+◌, ℕ, List, ◌∷◌, ◌++◌, length, map, ltb, Option, None, Ok, sym, ap, ◌∙◌, flat_map, codes}
 use Rattle.gl_text.specs.LogicalLines.{NAME, long_flat_name, long_text}
-use Rattle.gl_text.specs.Cards.{Head, Model, first_some, when, or_else}
-use Rattle.gl_text.specs.Decks.{◌>>=◌, Deck}
+use Rattle.gl_fault.specs.Refusals.{first_some, when, or_else, ◌>>=◌}
+use Rattle.gl_text.specs.Cards.{Head, Model}
+use Rattle.gl_text.specs.Decks.{Deck}
 use Rattle.gl_text.specs.Flattening.{DEPTH, TEXT, FlatDevice, Flat, net, top_net, top_ports, top_place, flat_devices, bearers, bearer_name, first_clash, chosen, flat_text, flatten}
 use Rattle.gl_lift.specs.FlatParts.{IsFlatOf}
-use Rattle.gl_printed.proofs.Refusals.{or_else_ok}
-use Rattle.gl_printed.proofs.Reading.{bind_ok}
+use Rattle.gl_fault.proofs.FirstLaws.{or_else_ok, bind_ok}
 use Rattle.gl_printed.proofs.FlatAlike.{Chosen, choice, behind_chosen, faults_flat, finish_flat, flatten_is}
 
 finished : (title : List ℕ) (rails : List (List ℕ)) (models : List Model) (passed : List (List ℕ)) (head : Option Head) (devices : List FlatDevice) (flat : Flat) → finish_flat title rails models passed head devices ≡ Ok flat
@@ -25,20 +25,11 @@ finished title rails models passed head devices flat h =
     let g = or_else_ok clashes c.0 flat c.2 in
     b.1 ∙ e.1 ∙ g.1
 
-same_head : (deck : Deck) (x : Chosen) → chosen deck None ≡ Ok x → x.0 ≡ None
-same_head deck x h = let e : choice None deck.top ≡ x = cc in sym (ap (λ (c : Chosen). c.0) e)
-
-pub flat_parts : (deck : Deck) (rails : List (List ℕ)) (flat : Flat) → flatten deck rails None ≡ Ok flat → IsFlatOf deck rails flat
+pub flat_parts : (deck : Deck) (rails : List (List ℕ)) (top : Option (List ℕ)) (flat : Flat) → flatten deck rails top ≡ Ok flat → IsFlatOf deck rails flat
 unfolding behind_chosen
-flat_parts d rails flat h =
-    let a = bind_ok (chosen d None) (behind_chosen DEPTH d rails) flat (sym (flatten_is d rails None) ∙ h) in
+flat_parts d rails top flat h =
+    let a = bind_ok (chosen d top) (behind_chosen DEPTH d rails) flat (sym (flatten_is d rails top) ∙ h) in
     let c = a.0 in
     let b = bind_ok (or_else (first_some (faults_flat DEPTH d.subs c.1)) c) (λ x. finish_flat d.title rails d.models d.passed x.0 (flat_devices rails d.subs DEPTH top_place x.1)) flat a.2 in
-    let o = or_else_ok (first_some (faults_flat DEPTH d.subs c.1)) c b.0 b.1 in
     let is = finished d.title rails d.models d.passed b.0.0 (flat_devices rails d.subs DEPTH top_place b.0.1) flat b.2 in
-    let head = same_head d c a.1 in
-    record {
-      rails_are = sym (ap (λ (f : Flat). f.rails) is);
-      models_are = sym (ap (λ (f : Flat). f.models) is);
-      no_top = sym (ap (λ (f : Flat). f.top) is) ∙ sym (ap (λ (x : Chosen). x.0) o.1) ∙ head;
-    }
+    record { rails_are = sym (ap (λ (f : Flat). f.rails) is); models_are = sym (ap (λ (f : Flat). f.models) is) }

@@ -6,5 +6,7 @@ mod report;
 
 pub use gl_cells::{Deck, LibFault, Library};
 pub use gl_flat::FlatFault;
-pub use laws::{flat_decks_are_sound, reports_by_numbers_are_reports, taken_files_are_lifted};
+pub use laws::{
+    flat_decks_are_sound, plain_reports_are_reports, read_values_are_lifted, taken_files_are_lifted,
+};
 pub use report::report_of;

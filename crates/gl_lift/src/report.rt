@@ -2,16 +2,17 @@
 ghost use Rattle.std.specs.Prelude.{◌≡◌, length, map, All, IfOk, IfErr};
 ghost use Rattle.gl_match.specs.Graph.{FitsInto};
 ghost use Rattle.gl_base.specs.BaseCircuit.{circuit_of as base_circuit};
-ghost use Rattle.gl_base.specs.Rounds.{cells_at, searched, cell_pattern, IsRound};
-ghost use Rattle.gl_base.specs.Lifting.{flat_deck, IsLiftReport};
+ghost use Rattle.gl_base.specs.Rounds.{source_of, cells_at, searched, cell_pattern, IsRound};
+ghost use Rattle.gl_base.specs.Lifting.{flat_deck, IsLiftReport, IsReport};
 ghost use Rattle.gl_graph.specs.Built.{IsBuiltPattern};
-ghost use Rattle.gl_flat.specs.Refusals.{Gives, IsRefusal, fault_of};
-ghost use Rattle.gl_lib.specs.Sources.{AreSound, source_in};
+ghost use Rattle.gl_fault.specs.Refusals.{IsRefusal};
+ghost use Rattle.gl_flat.specs.Refusals.{Gives, fault_of};
+ghost use Rattle.gl_lib.specs.Sources.{AreSound};
 ghost use Rattle.gl_report.specs.Naming.{IsReportable};
 ghost use Rattle.gl_lift.specs.Liftable.{IsLiftable, IsSearchable};
-ghost use Rattle.gl_lift.specs.Reported.{IsNumberedReport, round_names};
+ghost use Rattle.gl_lift.specs.Reported.{round_names};
 
-use crate::laws::{flat_decks_are_sound, reports_by_numbers_are_reports};
+use crate::laws::{flat_decks_are_sound, plain_reports_are_reports};
 use gl_base::kept_names_pin_once;
 use gl_cells::{Deck, Library};
 use gl_flat::{Flat, FlatFault, flatten};
@@ -47,8 +48,8 @@ fn know_patterns(patterns: &[Pattern])
 /// All that the round of a flat deck speaks of has a name.
 fn know_names(base: &Base, round: &Round, stem: &[u8], flat: &Flat, library: &Library)
     requires sound { AreSound flat.now library.now }
-    requires circuit { base.now.circuit ≡ base_circuit (source_in flat.now library.now) }
-    requires patterns { base.now.patterns ≡ map (cell_pattern (source_in flat.now library.now)) (searched (cells_at 0 library.now)) }
+    requires circuit { base.now.circuit ≡ base_circuit (source_of flat.now library.now) }
+    requires patterns { base.now.patterns ≡ map (cell_pattern (source_of flat.now library.now)) (searched (cells_at 0 library.now)) }
     requires round { IsRound base.now.circuit 1 base.now.patterns round.now.lists.items (map (λ v. v.items) round.now.picks.items) }
     ensures named { IsReportable (round_names flat.now stem.now) library.now round.now.lists.items (map (λ v. v.items) round.now.picks.items) }
 {
@@ -74,8 +75,8 @@ fn want_of_memory(fault: KeepFault) -> Memory
 /// The circuit and the patterns of a flat deck and a library, where no name is kept.
 fn base_of(alloc: Global, flat: &Flat, library: &Library) -> Result<Base, Memory>
     requires sound { AreSound flat.now library.now }
-    ensures circuit { IfOk result (λ base. base.circuit ≡ base_circuit (source_in flat.now library.now)) }
-    ensures patterns { IfOk result (λ base. base.patterns ≡ map (cell_pattern (source_in flat.now library.now)) (searched (cells_at 0 library.now))) }
+    ensures circuit { IfOk result (λ base. base.circuit ≡ base_circuit (source_of flat.now library.now)) }
+    ensures patterns { IfOk result (λ base. base.patterns ≡ map (cell_pattern (source_of flat.now library.now)) (searched (cells_at 0 library.now))) }
 {
     kept_names_pin_once();
     match circuit_of(alloc, flat, library, &[]) {
@@ -87,7 +88,7 @@ fn base_of(alloc: Global, flat: &Flat, library: &Library) -> Result<Base, Memory
 /// The report of a flat deck.
 fn report_of_flat(alloc: Global, flat: &Flat, library: &Library) -> Result<Vec<u8>, Memory>
     requires sound { AreSound flat.now library.now }
-    ensures report { IfOk result (λ text. IsNumberedReport flat.now library.now text.items) }
+    ensures report { IfOk result (λ text. IsReport flat.now library.now text.items) }
 {
     let base = base_of(alloc, flat, library)?;
     let round = round_of(alloc, base.circuit(), base.patterns(), 1)?;
@@ -110,7 +111,7 @@ pub fn report_of(alloc: Global, deck: &Deck, library: &Library) -> Result<Vec<u8
 {
     flat_decks_are_sound();
     let flat = flat_of(alloc, deck, library)?;
-    reports_by_numbers_are_reports();
+    plain_reports_are_reports();
     match report_of_flat(alloc, &flat, library) {
         Ok(text) => Ok(text),
         Err(Memory) => Err(FlatFault::Memory),

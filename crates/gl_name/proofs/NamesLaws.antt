@@ -1,8 +1,10 @@
 -- What names need makes their stem.
-use Rattle.std.proofs.Common.{◌≡◌, ℕ, ◌≤◌, List, [], ◌∷◌, ◌++◌, refl, sym, ap, ◌∙◌, subst, arith, inl, inr, ltb-true, ltb-false, le_antisymm}
+use Rattle.std.proofs.Common.{◌≡◌, ℕ, ◌≤◌, List, [], ◌∷◌, ◌++◌, map, refl, sym, ap, ◌∙◌, subst, arith, inl, inr, ltb-true, ltb-false, le_antisymm}
 use Rattle.std.specs.Prelude.{max, nat_lt}
 use Rattle.std.proofs.lemmas.Bool.{cases_Bool}
 use Rattle.std.proofs.lemmas.List.Elements.{All-nil, All-cons, All-head, All-tail}
+use Rattle.gl_text.specs.Cards.{Device as Card}
+use Rattle.gl_text.specs.Flattening.{FlatDevice, device_name, flat_card}
 use Rattle.gl_base.specs.Stems.{StandsIn, stem_with, IsUnused, IsStem}
 use Rattle.gl_base.specs.Rails.{all_rails}
 use Rattle.gl_name.specs.Needed.{needed, needed_by}
@@ -55,3 +57,11 @@ needed_parts devices nets rails ports =
     let three : needed_by (devices ++ nets ++ all_rails rails) ≡ max (max (needed_by devices) (needed_by nets)) (needed_by (all_rails rails)) = needed_append (devices ++ nets) (all_rails rails) ∙ ap (λ n. max n (needed_by (all_rails rails))) two in
     let whole : needed_by (devices ++ nets ++ all_rails rails ++ ports) ≡ max (max (max (needed_by devices) (needed_by nets)) (needed_by (all_rails rails))) (needed_by ports) = needed_append (devices ++ nets ++ all_rails rails) ports ∙ ap (λ n. max n (needed_by ports)) three in
     regroup (needed_by devices) (needed_by nets) (needed_by rails) (needed_by ports) ∙ sym whole
+
+-- the names of the cards of flat devices
+abbrev pub card_names : List FlatDevice → List (List ℕ)
+card_names devices = map (λ (c : Card). c.name) (map flat_card devices)
+
+pub names_of_cards : (devices : List FlatDevice) → map device_name devices ≡ card_names devices
+names_of_cards [] = refl
+names_of_cards (d ∷ ds) = ap (λ (ns : List (List ℕ)). device_name d ∷ ns) (names_of_cards ds)

@@ -1,2 +1,1 @@
-pub mod FlatNames
 pub mod Needed

@@ -1,9 +1,8 @@
-ghost use Rattle.std.specs.Prelude.{◌≡◌, ◌≤◌, max, length};
-ghost use Rattle.gl_flat.specs.Numbered.{NumberedDevice};
+ghost use Rattle.std.specs.Prelude.{◌≡◌, ◌≤◌, max, length, map};
+ghost use Rattle.gl_flat.specs.Kept.{KeptDevice as Kept};
 ghost use Rattle.gl_name.specs.Needed.{underscores, needed_at, needed, needed_by};
-ghost use Rattle.gl_name.specs.FlatNames.{device_names};
 
-use gl_flat::{FlatDevice, Name};
+use gl_flat::{KeptDevice, Name};
 
 /// How many underscores the bytes begin with.
 fn underscores_at(bytes: &[u8]) -> usize
@@ -55,8 +54,8 @@ pub fn needed_by_names(most: usize, names: &[Name]) -> usize
 }
 
 /// The same for the names of devices.
-pub fn needed_by_devices(most: usize, devices: &[FlatDevice]) -> usize
-    ensures needed { result ≡ max most (needed_by (device_names devices.now)) }
+pub fn needed_by_devices(most: usize, devices: &[KeptDevice]) -> usize
+    ensures needed { result ≡ max most (needed_by (map (λ (d : Kept). d.name) devices.now)) }
 {
     let mut count = most;
     for device in devices {

@@ -1,136 +1,91 @@
+ghost use Rattle.std.specs.Prelude.{IfOk};
+ghost use Rattle.gl_printed.specs.ReadDecks.{IsReadDeck};
+
 use crate::{Flat, stem};
-use gl_flat::{FlatDevice, Head, Letter, Name, Tail};
-use std::alloc::{AllocError, Global};
+use gl_flat::{Deck, Name, flatten};
+use gl_printed::read_decks_are_fine;
+use std::alloc::Global;
 use std::test::Fail;
 
-/// The names of a flat deck, and its stem. Device names are given without their first byte, `m`.
+/// A file with a subcircuit `top`, and the stem of its flat deck.
 #[derive(Clone, Copy)]
 struct Row {
     title: &'static str,
-    devices: &'static [&'static str],
-    nets: &'static [&'static str],
-    rails: &'static [&'static str],
-    ports: &'static [&'static str],
+    file: &'static [u8],
     stem: &'static str,
 }
 
 const ROWS: [Row; 8] = [
     Row {
-        title: "an empty deck",
-        devices: &[],
-        nets: &[],
-        rails: &[],
-        ports: &[],
+        title: "no device",
+        file: b"\n.subckt top a\n.ends\n",
         stem: "xg",
     },
     Row {
         title: "no name with xg",
-        devices: &["1", "g"],
-        nets: &["x", "g", "gx", "x_g"],
-        rails: &["vdd"],
-        ports: &["a"],
+        file: b"\n.global vdd\n.subckt top a\nm1 x g gx x_g nch\nmg x g gx x_g nch\n.ends\n",
         stem: "xg",
     },
     Row {
         title: "one with and one without an underscore",
-        devices: &["1"],
-        nets: &["xg1.n", "xg_"],
-        rails: &[],
-        ports: &[],
+        file: b"\n.subckt top a\nr1 xg1.n xg_\n.ends\n",
         stem: "xg__",
     },
     Row {
         title: "inside a name",
-        devices: &[],
-        nets: &["axg__xg"],
-        rails: &[],
-        ports: &[],
+        file: b"\n.subckt top a\nr1 axg__xg 0\n.ends\n",
         stem: "xg___",
     },
     Row {
         title: "the last name has fewer",
-        devices: &[],
-        nets: &["xg___", "xg"],
-        rails: &[],
-        ports: &[],
+        file: b"\n.subckt top a\nr1 xg___ xg\n.ends\n",
         stem: "xg____",
     },
     Row {
         title: "a device",
-        devices: &[".xg.1", "2"],
-        nets: &["a"],
-        rails: &[],
-        ports: &[],
+        file: b"\n.subckt top a\nr.xg.1 a 0\nr2 a 0\n.ends\n",
         stem: "xg_",
     },
     Row {
         title: "a rail that no device has",
-        devices: &[],
-        nets: &["a"],
-        rails: &["xg_", "vdd"],
-        ports: &[],
+        file: b"\n.global xg_ vdd\n.subckt top a\nr1 a 0\n.ends\n",
         stem: "xg__",
     },
     Row {
         title: "a port of the top",
-        devices: &[],
-        nets: &["xg_"],
-        rails: &[],
-        ports: &["a", "xxg__b"],
+        file: b"\n.subckt top a xxg__b\nr1 xg_ 0\n.ends\n",
         stem: "xg___",
     },
 ];
 
-fn names_of(alloc: Global, texts: &[&str]) -> Result<Vec<Name>, AllocError> {
-    let mut names = Vec::new(alloc);
-    for text in texts {
-        names.push(Name::of(alloc, text.as_bytes())?)?;
+/// The deck of a file with a title.
+fn read(alloc: Global, bytes: &[u8]) -> Result<Deck, Fail>
+    ensures read { IfOk result (λ deck. IsReadDeck deck) }
+{
+    read_decks_are_fine();
+    if bytes.len() > 67_108_864 {
+        return Err(Fail::new("unexpected"));
     }
-    Ok(names)
+    Ok(Deck::read(alloc, bytes, true)?)
 }
 
-fn transistor(alloc: Global, rest: &[u8]) -> Result<FlatDevice, AllocError> {
-    let mut bytes = Vec::from_slice(alloc, b"m")?;
-    bytes.extend_from_slice(rest)?;
-    Ok(FlatDevice {
-        name: Name { bytes },
-        letter: Letter::M,
-        nodes: Vec::new(alloc),
-        model: None,
-        tail: Tail {
-            bytes: Vec::new(alloc),
-        },
-    })
-}
-
-fn transistors_of(alloc: Global, rests: &[&str]) -> Result<Vec<FlatDevice>, AllocError> {
-    let mut devices = Vec::new(alloc);
-    for rest in rests {
-        devices.push(transistor(alloc, rest.as_bytes())?)?;
+/// The flat deck of the subcircuit `top`.
+fn flat(alloc: Global, deck: &Deck) -> Result<Flat, Fail>
+    requires read { IsReadDeck deck.now }
+{
+    let top = Name::of(alloc, b"top")?;
+    match flatten(alloc, deck, deck.globals(), Some(&top)) {
+        Ok(flat) => Ok(flat),
+        Err(_) => Err(Fail::new("refused")),
     }
-    Ok(devices)
-}
-
-fn deck_of(alloc: Global, row: &Row) -> Result<Flat, AllocError> {
-    Ok(Flat {
-        title: Vec::new(alloc),
-        rails: names_of(alloc, row.rails)?,
-        models: Vec::new(alloc),
-        top: Some(Head {
-            name: Name::of(alloc, b"top")?,
-            ports: names_of(alloc, row.ports)?,
-        }),
-        nets: names_of(alloc, row.nets)?,
-        devices: transistors_of(alloc, row.devices)?,
-        passed: Vec::new(alloc),
-    })
 }
 
 #[test]
 fn stems(rt: HostRuntime) -> Result<(), Fail> {
     let alloc = rt.alloc();
     for row in &ROWS {
-        let given = stem(alloc, &deck_of(alloc, row)?)?;
+        let deck = read(alloc, row.file)?;
+        let given = stem(alloc, &flat(alloc, &deck)?)?;
         assert_eq!(rt; given.as_slice(), row.stem.as_bytes(), "{}", row.title);
     }
     Ok(())

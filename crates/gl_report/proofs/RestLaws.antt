@@ -6,17 +6,15 @@ use Rattle.std.proofs.lemmas.List.{append-nil, take-take, length-take, get_or-ma
 use Rattle.std.proofs.Math.Seq.{drop-length}
 use Rattle.std.proofs.lemmas.List.Elements.{All-tail}
 use Rattle.std.proofs.lemmas.List.Concat.{flat_map-append}
-use Rattle.gl_text.specs.Decks.{Body, dev_at, call_at, Sub}
+use Rattle.gl_text.specs.Decks.{Body, Sub}
 use Rattle.gl_match.specs.declared.spot.Spot.{Spot}
 use Rattle.gl_match.specs.declared.role.Pick.{Pick}
 use Rattle.gl_match.specs.Listing.{Instance}
 use Rattle.gl_base.specs.Libraries.{Skip, Cell}
 use Rattle.gl_base.specs.Reports.{part, parts, name_at}
-use Rattle.gl_text.specs.Cards.{Device as Card}
-use Rattle.gl_text.specs.CellCards.{devices_in}
-use Rattle.gl_base.specs.RoundReports.{CellPart, part_lines, part_before, cell_parts}
+use Rattle.gl_base.specs.RoundReports.{CellPart, part_lines, part_before, cell_parts, card_name}
 use Rattle.gl_report.specs.Naming.{RoundNames}
-use Rattle.gl_report.specs.Pieces.{behind_blanks, spot_parts, behind_card, parts_text, IsPartNamed, ArePartsNamed, told_of, untold_by, told, untold}
+use Rattle.gl_report.specs.Pieces.{behind_blanks, spot_parts, parts_text, IsPartNamed, ArePartsNamed, told_of, untold_by, told, untold}
 
 -- a text that begins with one that begins with a text begins with that
 pub front_on : (a b c : List ℕ) → take (length a) b ≡ a → take (length b) c ≡ b → take (length a) c ≡ a
@@ -53,24 +51,22 @@ no_parts [] = refl
 no_parts (name ∷ names) = refl
 
 -- the part of the first card, and those of the others
-pub spot_parts_split : (devices : List (List ℕ)) (card : Body) (cards : List Body) (spots : List Spot) → behind_blanks (spot_parts devices (card ∷ cards) spots) ≡ behind_blanks (spot_parts devices (card ∷ []) spots) ++ behind_blanks (spot_parts devices cards (behind_card card spots))
-spot_parts_split devices (call_at line c) cards spots = refl
-spot_parts_split devices (dev_at line d) cards [] = sym (ap behind_blanks (no_parts (map (λ (d : Card). d.name) (devices_in cards))))
-spot_parts_split devices (dev_at line d) cards (spot ∷ spots) = ap (λ t. t ++ behind_blanks (spot_parts devices cards spots)) (sym (append-nil (32 ∷ part (d.name, name_at devices spot.dev))))
+pub spot_parts_split : (devices : List (List ℕ)) (card : Body) (cards : List Body) (spots : List Spot) → behind_blanks (spot_parts devices (card ∷ cards) spots) ≡ behind_blanks (spot_parts devices (card ∷ []) spots) ++ behind_blanks (spot_parts devices cards (drop 1 spots))
+spot_parts_split devices card cards [] = sym (ap behind_blanks (no_parts (map card_name cards)))
+spot_parts_split devices card cards (spot ∷ spots) = ap (λ t. t ++ behind_blanks (spot_parts devices cards spots)) (sym (append-nil (32 ∷ part (card_name card, name_at devices spot.dev))))
 
 -- a turn of the loop prints the part of one more card
-pub image_step : (devices : List (List ℕ)) (all others : List Body) (card : Body) (spots rest : List Spot) (whole before after : List ℕ) → all ≡ card ∷ others → after ≡ before ++ behind_blanks (spot_parts devices (card ∷ []) spots) → rest ≡ behind_card card spots → before ++ behind_blanks (spot_parts devices all spots) ≡ whole → after ++ behind_blanks (spot_parts devices others rest) ≡ whole
+pub image_step : (devices : List (List ℕ)) (all others : List Body) (card : Body) (spots rest : List Spot) (whole before after : List ℕ) → all ≡ card ∷ others → after ≡ before ++ behind_blanks (spot_parts devices (card ∷ []) spots) → rest ≡ drop 1 spots → before ++ behind_blanks (spot_parts devices all spots) ≡ whole → after ++ behind_blanks (spot_parts devices others rest) ≡ whole
 image_step devices all others card spots rest whole before after from now behind was =
     let own = behind_blanks (spot_parts devices (card ∷ []) spots) in
-    let later = behind_blanks (spot_parts devices others (behind_card card spots)) in
+    let later = behind_blanks (spot_parts devices others (drop 1 spots)) in
     let split : behind_blanks (spot_parts devices all spots) ≡ own ++ later = ap (λ cs. behind_blanks (spot_parts devices cs spots)) from ∙ spot_parts_split devices card others spots in
     ap (λ ss. after ++ behind_blanks (spot_parts devices others ss)) behind ∙ printed_next whole before after own later now (ap (λ t. before ++ t) (sym split) ∙ was)
 
 -- what holds of all spots holds of those behind
-pub behind_all : (P : Spot → Type 0) (card : Body) (spots rest : List Spot) → rest ≡ behind_card card spots → All P spots → All P rest
-behind_all P (call_at line c) spots rest e h = subst (All P) (sym e) h
-behind_all P (dev_at line d) [] rest e h = subst (All P) (sym e) h
-behind_all P (dev_at line d) (spot ∷ spots) rest e h = subst (All P) (sym e) (All-tail P spot spots h)
+pub behind_all : (P : Spot → Type 0) (spots rest : List Spot) → rest ≡ drop 1 spots → All P spots → All P rest
+behind_all P [] rest e h = subst (All P) (sym e) h
+behind_all P (spot ∷ spots) rest e h = subst (All P) (sym e) (All-tail P spot spots h)
 
 -- ---- cells
 

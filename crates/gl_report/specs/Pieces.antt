@@ -1,29 +1,22 @@
 -- The pieces of a report, as they are printed one after another.
 use Rattle.std.specs.Prelude.{◌≡◌, ◌==◌, ℕ, List, [], ◌∷◌, map, length, drop, flat_map, All, Option, Some, None, if◌then◌else◌, ⊤}
 use Rattle.std.specs.List.{AllByRecursion}
-use Rattle.gl_text.specs.Cards.{Device as Card}
-use Rattle.gl_text.specs.Decks.{Body, dev_at, call_at, Sub}
-use Rattle.gl_text.specs.CellCards.{devices_in}
+use Rattle.gl_text.specs.Decks.{Body, Sub}
 use Rattle.gl_match.specs.declared.spot.Spot.{Spot}
 use Rattle.gl_match.specs.declared.role.Pick.{Pick}
 use Rattle.gl_match.specs.Listing.{Instance}
 use Rattle.gl_base.specs.Libraries.{Skip, Cell}
 use Rattle.gl_base.specs.Reports.{line, parts, name_at}
-use Rattle.gl_base.specs.RoundReports.{CellPart, found, skipped, part_lines, part_before, cell_parts, found_words}
+use Rattle.gl_base.specs.RoundReports.{CellPart, found, skipped, part_lines, part_before, cell_parts, found_words, card_name}
 use Rattle.gl_report.specs.Naming.{RoundNames, IsNamed}
 
 -- the words, each behind a blank
 abbrev pub behind_blanks : List (List ℕ) → List ℕ
 behind_blanks words = flat_map (λ word. 32 ∷ word) words
 
--- the device cards with their images, by spots of the circuit's devices
+-- the cards with their images, by spots of the circuit's devices
 abbrev pub spot_parts : List (List ℕ) → List Body → List Spot → List (List ℕ)
-spot_parts devices cards spots = parts (map (λ (d : Card). d.name) (devices_in cards)) (map (λ (s : Spot). name_at devices s.dev) spots)
-
--- the spots behind that of a card
-abbrev pub behind_card : Body → List Spot → List Spot
-behind_card (dev_at line d) spots = drop 1 spots
-behind_card (call_at line c) spots = spots
+spot_parts devices cards spots = parts (map card_name cards) (map (λ (s : Spot). name_at devices s.dev) spots)
 
 -- the lines of some instances with their numbers
 abbrev pub instance_lines : RoundNames → Sub → List (ℕ × (Instance × Pick)) → List ℕ

@@ -75,7 +75,12 @@ pub fn put_instance(
     let key = &item.key;
     put_number(out, number)?;
     put_fate(out, names.stem, pick)?;
-    put_ports(out, cell.head().ports(), names.flat.nets(), &key.binding)?;
+    put_ports(
+        out,
+        cell.head().ports(),
+        names.flat.nets().items(),
+        &key.binding,
+    )?;
     put(out, b" |")?;
     put_images(out, cell.cards(), names.flat.devices(), &item.least)?;
     put(out, b"\n")

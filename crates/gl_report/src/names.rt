@@ -12,13 +12,15 @@ pub struct Names<'a> {
 
 impl<'a> Model for Names<'a> {
     ghost use Rattle.std.specs.Prelude.{map};
-    ghost use Rattle.gl_flat.specs.Numbered.{NumberedDevice};
+    ghost use Rattle.gl_text.specs.Flattening.{device_name};
+    ghost use Rattle.gl_base.specs.BaseCircuit.{nets_of};
+    ghost use Rattle.gl_base.specs.Rounds.{cards_of};
     ghost use Rattle.gl_report.specs.Naming.{RoundNames};
 
     ghost Value = { RoundNames };
 
     ghost view = { λ n. record {
-      run = record { stem = n.stem.now; nets = n.flat.now.nets };
-      devices = map (λ (d : NumberedDevice). d.name) n.flat.now.devices;
+      run = record { stem = n.stem.now; nets = nets_of (cards_of n.flat.now) };
+      devices = map device_name n.flat.now.devices;
     } };
 }

@@ -1,13 +1,14 @@
-ghost use Rattle.std.specs.Prelude.{◌≡◌, ◌<◌, ◌∷◌, ◌++◌, [], OnOk, IfOk, take, length, map, All};
+ghost use Rattle.std.specs.Prelude.{◌≡◌, ◌<◌, ◌∷◌, ◌++◌, [], OnOk, IfOk, take, drop, length, map, All};
 ghost use Rattle.gl_match.specs.declared.spot.Spot.{Spot as SpotValue};
 ghost use Rattle.gl_base.specs.Reports.{name_at, parts};
+ghost use Rattle.gl_base.specs.RoundReports.{card_name};
 ghost use Rattle.gl_deck.specs.Bodies.{body_value, bodies_value};
-ghost use Rattle.gl_flat.specs.Numbered.{NumberedDevice};
-ghost use Rattle.gl_report.specs.Pieces.{behind_blanks, spot_parts, behind_card};
+ghost use Rattle.gl_flat.specs.Kept.{KeptDevice as Kept};
+ghost use Rattle.gl_report.specs.Pieces.{behind_blanks, spot_parts};
 
 use crate::words::put_part;
 use gl_deck::Body;
-use gl_flat::FlatDevice;
+use gl_flat::KeptDevice;
 use gl_line::Name;
 use gl_match::{Memory, NetId, Spot};
 
@@ -30,43 +31,48 @@ pub fn put_ports(
     Ok(())
 }
 
-/// Appends the part of a card if it is a device's, with the image by the first spot. The spots behind it are given.
+/// The name of a card.
+fn name_of(card: &Body) -> &Name
+    ensures name { result.now ≡ card_name (body_value card.now) }
+{
+    match card {
+        Body::Dev(_, device) => device.name(),
+        Body::Call(_, call) => call.name(),
+    }
+}
+
+/// Appends the part of a card, with the image by the first spot. The spots behind it are given.
 fn put_image<'a>(
     out: &mut Vec<u8>,
     card: &Body,
-    devices: &[FlatDevice],
+    devices: &[KeptDevice],
     spots: &'a [Spot],
 ) -> Result<&'a [Spot], Memory>
     requires named { All (λ (s : SpotValue). s.dev < length devices.now) spots.now }
     ensures ok { OnOk result (out.new.items ≡ out.old.items ++ behind_blanks
-        (spot_parts (map (λ (d : NumberedDevice). d.name) devices.now) (body_value card.now ∷ []) spots.now)) }
-    ensures behind { IfOk result (λ rest. rest.now ≡ behind_card (body_value card.now) spots.now) }
+        (spot_parts (map (λ (d : Kept). d.name) devices.now) (body_value card.now ∷ []) spots.now)) }
+    ensures behind { IfOk result (λ rest. rest.now ≡ drop 1 spots.now) }
     ensures front { take (length out.old.items) out.new.items ≡ out.old.items }
 {
-    match card {
-        Body::Call(_, _) => Ok(spots),
-        Body::Dev(_, device) => {
-            let [spot, behind @ ..] = spots else {
-                return Ok(spots);
-            };
-            let dev = spot.dev;
-            let image = &devices[dev.0 as usize];
-            put_part(out, device.name().as_bytes(), image.name().as_bytes())?;
-            Ok(behind)
-        }
-    }
+    let [spot, behind @ ..] = spots else {
+        return Ok(spots);
+    };
+    let dev = spot.dev;
+    let image = &devices[dev.0 as usize];
+    put_part(out, name_of(card).as_bytes(), image.name().as_bytes())?;
+    Ok(behind)
 }
 
-/// Appends a part for each device card of a cell, with its image.
+/// Appends a part for each card of a cell, with its image.
 pub fn put_images(
     out: &mut Vec<u8>,
     cards: &[Body],
-    devices: &[FlatDevice],
+    devices: &[KeptDevice],
     least: &[Spot],
 ) -> Result<(), Memory>
     requires named { All (λ (s : SpotValue). s.dev < length devices.now) least.now }
     ensures ok { OnOk result (out.new.items ≡ out.old.items ++ behind_blanks
-        (spot_parts (map (λ (d : NumberedDevice). d.name) devices.now) (bodies_value cards.now) least.now)) }
+        (spot_parts (map (λ (d : Kept). d.name) devices.now) (bodies_value cards.now) least.now)) }
     ensures front { take (length out.old.items) out.new.items ≡ out.old.items }
 {
     let mut spots = least;

@@ -1,21 +1,21 @@
 -- A flat deck flattens again, and its text to itself.
 use Rattle.std.proofs.Common.{◌≡◌, ◌≤◌, ◌+◌, ℕ, List, ◌∷◌, ◌++◌, length, map, ltb, true, Option, Result, Ok, refl, sym, ap, ◌∙◌, subst, flat_map, option_map, codes}
 use Rattle.gl_text.specs.LogicalLines.{Fault, long_text}
-use Rattle.gl_text.specs.Cards.{Head, first_some, when, or_else}
-use Rattle.gl_text.specs.Decks.{◌>>=◌, Deck, deck_text, read_deck}
+use Rattle.gl_fault.specs.Refusals.{first_some, when, or_else, ◌>>=◌}
+use Rattle.gl_text.specs.Cards.{Head}
+use Rattle.gl_text.specs.Decks.{Deck, deck_text, read_deck}
 use Rattle.gl_text.specs.Flattening.{DEPTH, DEVICES, TEXT, FlatDevice, Flat, top_ports, top_place, flat_devices, bearers, first_clash, chosen, flat_text, flatten, flat_of, flat_job}
 use Rattle.gl_printed.specs.FlatDecks.{flat_cards, subs_around, deck_of}
 use Rattle.gl_printed.specs.ReadDecks.{unnumbered}
 use Rattle.gl_printed.proofs.DistinctNames.{head_name}
-use Rattle.gl_printed.proofs.Refusals.{or_else_ok}
-use Rattle.gl_printed.proofs.Reading.{bind_ok}
+use Rattle.gl_fault.proofs.FirstLaws.{or_else_ok, bind_ok}
 use Rattle.gl_printed.proofs.ReadDeckLaws.{read_fine}
 use Rattle.gl_printed.proofs.ReadBackLaws.{read_back}
 use Rattle.gl_printed.proofs.FlatAlike.{Chosen, choice, behind_chosen, faults_flat, finish_flat, flatten_is, alike}
 use Rattle.gl_printed.proofs.FlatDeckLaws.{flat_text_is, flat_fine_deck}
 use Rattle.gl_flat.proofs.GivenFlats.{given}
 use Rattle.gl_flat.proofs.StepLaws.{none_refuses}
-use Rattle.gl_steady.specs.SteadyFlats.{at_top, all_at_top}
+use Rattle.gl_steady.proofs.AtTop.{at_top, all_at_top}
 use Rattle.gl_steady.proofs.TopDevices.{text_stays, devices_at_top, none_exceeds}
 use Rattle.gl_steady.proofs.TopNames.{long, lengths_stay, top_bearer, no_clash_stays}
 use Rattle.gl_steady.proofs.TopChoices.{chosen_named, chosen_again}

@@ -1,3 +1,4 @@
+pub mod AtTop
 pub mod TopDevices
 pub mod TopNames
 pub mod TopChoices

@@ -6,8 +6,9 @@ use Rattle.gl_text.specs.Cards.{Head}
 use Rattle.gl_text.specs.Decks.{Body, Sub, Deck, find_sub}
 use Rattle.gl_text.specs.Flattening.{Flat, chosen}
 use Rattle.gl_printed.specs.FlatDecks.{flat_cards, subs_around, top_without, deck_of}
-use Rattle.gl_printed.proofs.DistinctNames.{head_name, some_is}
+use Rattle.gl_printed.proofs.DistinctNames.{head_name}
 use Rattle.gl_printed.proofs.FlatAlike.{Chosen, choice, pick, pick_is}
+use Rattle.std.proofs.lemmas.Option.{same_Some}
 
 -- ---- a chosen top has the name by which it was chosen
 
@@ -15,7 +16,7 @@ found_named : (subs : List Sub) (name : List ℕ) (s : Sub) → find_sub subs na
 found_named [] name s e = absurd cc
 found_named (t ∷ subs) name s e = by (same_text t.head.name name) refl (found_named subs name s) e where
   by : (b : Bool) → same_text t.head.name name ≡ b → (find_sub subs name ≡ Some s → s.head.name ≡ name) → cond b (Some t) (find_sub subs name) ≡ Some s → s.head.name ≡ name
-  by true f later g = subst (λ (x : Sub). x.head.name ≡ name) (some_is t s g) ((bytes_decides t.head.name name).0 f)
+  by true f later g = subst (λ (x : Sub). x.head.name ≡ name) (same_Some t s g) ((bytes_decides t.head.name name).0 f)
   by false f later g = later g
 
 ok_head : (x y : Chosen) (r : Result Chosen Fault) → r ≡ Ok x → r ≡ Ok y → x.0 ≡ y.0

@@ -1,13 +1,15 @@
 -- Flat devices at the top: their cards are the same, and flattening those cards gives them, within its limits.
 use Rattle.std.proofs.Common.{◌≡◌, ◌≤◌, ◌+◌, ℕ, zero, suc, List, [], ◌∷◌, length, map, cond, ltb, not, Bool, true, false, Option, None, refl, sym, ap, ◌∙◌, filter, flat_map, fold, sum_by, arith, ltb-true}
 use Rattle.gl_text.specs.LogicalLines.{Fault, too_deep, too_many_cards, too_many_devices}
-use Rattle.gl_text.specs.Cards.{Device, first_some, when}
+use Rattle.gl_fault.proofs.FirstLaws.{first_none}
+use Rattle.gl_fault.specs.Refusals.{first_some, when}
+use Rattle.gl_text.specs.Cards.{Device}
 use Rattle.gl_text.specs.Decks.{Body, dev_at, Sub, is_in, callees, deck_text}
 use Rattle.gl_text.specs.Flattening.{DEPTH, CARDS, DEVICES, Net, FlatDevice, Place, Flat, top_net, top_place, is_rail, net_of, net_name, device_name, flat_card, devices_of, flat_devices, flat_text, size_of, sizes, one, one_device, at_depth, is_none_left}
 use Rattle.gl_printed.specs.FlatDecks.{flat_cards, subs_around, top_without, deck_of}
 use Rattle.gl_printed.proofs.FlatAlike.{faults_flat}
 use Rattle.gl_printed.proofs.FlatDeckLaws.{flat_text_is}
-use Rattle.gl_steady.specs.SteadyFlats.{at_top, all_at_top}
+use Rattle.gl_steady.proofs.AtTop.{at_top, all_at_top}
 
 -- ---- cards
 
@@ -80,9 +82,6 @@ none_over limit n f h = by (ltb limit n) refl where
   by true e = let l = ltb-true limit n e in absurd (omega (arith, l, h))
   by false e = refl
 
-all_none : (a b c : Option Fault) → a ≡ None → b ≡ None → c ≡ None → first_some (a ∷ b ∷ c ∷ []) ≡ None
-all_none a b c e f g = ap (λ x. first_some (x ∷ b ∷ c ∷ [])) e ∙ ap (λ x. first_some (x ∷ c ∷ [])) f ∙ ap (λ x. first_some (x ∷ [])) g
-
 -- cards of at most so many devices exceed nothing
 pub none_exceeds : (depth : ℕ) (subs : List Sub) (ds : List FlatDevice) → length ds ≤ DEVICES → first_some (faults_flat depth subs (flat_cards ds)) ≡ None
 unfolding faults_flat
@@ -93,7 +92,10 @@ none_exceeds depth subs ds h =
     let b = each_once (size_of one_device (sizes one_device subs depth)) (λ c. refl) 0 ds in
     let few_cards : cards ≤ CARDS = omega (arith, a, h) in
     let few : devices ≤ DEVICES = omega (arith, b, h) in
-    all_none (when (not (is_none_left (at_depth subs (flat_cards ds) depth))) (too_deep (DEPTH + 1))) (when (ltb CARDS cards) (too_many_cards (CARDS + 1))) (when (ltb DEVICES devices) (too_many_devices (DEVICES + 1)))
-    (ap (λ ss. when (not (is_none_left ss)) (too_deep (DEPTH + 1))) (none_deep subs ds depth))
-    (none_over CARDS cards (too_many_cards (CARDS + 1)) few_cards)
-    (none_over DEVICES devices (too_many_devices (DEVICES + 1)) few)
+    first_none (when (not (is_none_left (at_depth subs (flat_cards ds) depth))) (too_deep (DEPTH + 1)) ∷ when (ltb CARDS cards) (too_many_cards (CARDS + 1)) ∷ when (ltb DEVICES devices) (too_many_devices (DEVICES + 1)) ∷ []) (
+      ap (λ ss. when (not (is_none_left ss)) (too_deep (DEPTH + 1))) (none_deep subs ds depth),
+      (
+        none_over CARDS cards (too_many_cards (CARDS + 1)) few_cards,
+        (none_over DEVICES devices (too_many_devices (DEVICES + 1)) few, tt),
+      ),
+    )

@@ -5,10 +5,10 @@ use Rattle.std.specs.List.{list_any}
 use Rattle.std.proofs.lemmas.Bool.{or_parts}
 use Rattle.std.proofs.lemmas.List.{map-append}
 use Rattle.gl_text.specs.LogicalLines.{NAME, Fault, name_clash, long_flat_name, same_text}
-use Rattle.gl_text.specs.Cards.{first_some, when}
+use Rattle.gl_fault.specs.Refusals.{first_some, when}
 use Rattle.gl_text.specs.Flattening.{Net, FlatDevice, Bearer, device, net, net_name, top_net, device_name, bearers, bearer_name, clash, first_clash}
-use Rattle.gl_printed.proofs.Refusals.{none_first, when_none}
-use Rattle.gl_steady.specs.SteadyFlats.{at_top}
+use Rattle.gl_fault.proofs.FirstLaws.{none_first, when_none, first_none}
+use Rattle.gl_steady.proofs.AtTop.{at_top}
 
 -- what has a flat name, at the top
 abbrev lifted : Bearer → Bearer
@@ -56,18 +56,16 @@ any_lifted b (c ∷ cs) h =
     let a = or_parts (clash b c) (list_any (clash b) cs) h in
     ap (λ t. t || list_any (clash (lifted b)) (map lifted cs)) (clash_lifted b c a.0) ∙ any_lifted b cs a.1
 
-both_none : (a b : Option Fault) → a ≡ None → b ≡ None → first_some (a ∷ b ∷ []) ≡ None
-both_none a b e f = ap (λ x. first_some (x ∷ b ∷ [])) e ∙ ap (λ x. first_some (x ∷ [])) f
-
 none_lifted : (bs before : List Bearer) → first_clash before bs ≡ None → first_clash (map lifted before) (map lifted bs) ≡ None
 none_lifted [] before h = refl
 none_lifted (b ∷ bs) before h =
     let a = none_first (when (list_any (clash b) before) (name_clash (bearer_name b))) (first_clash (before ++ b ∷ []) bs ∷ []) h in
     let c = none_first (first_clash (before ++ b ∷ []) bs) [] a.1 in
     let here = any_lifted b before (when_none (list_any (clash b) before) (name_clash (bearer_name b)) a.0) in
-    both_none (when (list_any (clash (lifted b)) (map lifted before)) (name_clash (bearer_name (lifted b)))) (first_clash (map lifted before ++ lifted b ∷ []) (map lifted bs))
-    (ap (λ t. when t (name_clash (bearer_name (lifted b)))) here)
-    (ap (λ cs. first_clash cs (map lifted bs)) (sym (map-append lifted before (b ∷ []))) ∙ none_lifted bs (before ++ b ∷ []) c.0)
+    first_none (when (list_any (clash (lifted b)) (map lifted before)) (name_clash (bearer_name (lifted b))) ∷ first_clash (map lifted before ++ lifted b ∷ []) (map lifted bs) ∷ []) (
+      ap (λ t. when t (name_clash (bearer_name (lifted b)))) here,
+      (ap (λ cs. first_clash cs (map lifted bs)) (sym (map-append lifted before (b ∷ []))) ∙ none_lifted bs (before ++ b ∷ []) c.0, tt),
+    )
 
 abbrev pub top_bearer : List ℕ → Bearer
 top_bearer n = net (top_net n)

@@ -3,6 +3,4 @@
 
 mod laws;
 
-pub use laws::{
-    flat_decks_flatten_again, flat_decks_stay, flat_texts_flatten_to_themselves, worked_texts,
-};
+pub use laws::{flat_decks_flatten_again, flat_decks_stay, flat_texts_flatten_to_themselves};

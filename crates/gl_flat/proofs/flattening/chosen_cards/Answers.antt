@@ -1,9 +1,10 @@
+use Rattle.gl_fault.specs.Refusals.{IsFound}
 use Rattle.std.proofs.Common.{◌∙◌, ap, sym, subst, List}
 use Rattle.std.specs.Option.{option_copied}
 use Rattle.gl_text.specs.Decks.{Sub}
+use Rattle.gl_text.specs.Flattening.{excess_in}
 use Rattle.gl_deck.specs.Bodies.{bodies_value}
-use Rattle.gl_flat.specs.Refusals.{IsFound, fault_of}
-use Rattle.gl_flat.specs.Steps.{excess_in}
+use Rattle.gl_flat.specs.Refusals.{fault_of}
 use Rattle.gl_flat.proofs.StepLaws.{refused_on, choice_refuses, excess_refuses}
 use Rattle.gl_flat.proofs.flattening.chosen_cards.Goals as goal
 

@@ -1,9 +1,8 @@
 use Rattle.std.proofs.Common.{subst, map, flat_map}
 use Rattle.std.specs.Option.{option_copied}
-use Rattle.gl_text.specs.Flattening.{bearers, first_clash, net, top_net, top_ports}
-use Rattle.gl_flat.specs.LongNames.{long_in}
+use Rattle.gl_text.specs.Flattening.{bearers, first_clash, net, top_net, top_ports, long_in, text_fault}
 use Rattle.gl_flat.specs.Refusals.{Gives}
-use Rattle.gl_flat.specs.Steps.{flat_with, text_fault, checked}
+use Rattle.gl_flat.specs.Steps.{flat_with, checked}
 use Rattle.gl_flat.specs.TopNames.{top_names}
 use Rattle.gl_flat.proofs.BoundLaws.{nets_fit}
 use Rattle.gl_flat.proofs.ClashLaws.{clash_same}

@@ -1,6 +1,6 @@
 use Rattle.std.proofs.Common.{◌≡◌, length, flat_map}
-use Rattle.gl_text.specs.Flattening.{bearers}
-use Rattle.gl_flat.specs.LongNames.{AreCountable, long_in}
+use Rattle.gl_text.specs.Flattening.{bearers, long_in}
+use Rattle.gl_flat.specs.LongNames.{AreCountable}
 use Rattle.gl_flat.proofs.long.first_long.Given as goal
 
 abbrev pub invariant-loop-rest : goal.invariant-loop-rest

@@ -1,6 +1,6 @@
 use Rattle.std.proofs.Common.{◌≡◌, length, map}
-use Rattle.gl_text.specs.Flattening.{net}
-use Rattle.gl_flat.specs.LongNames.{AreCountable, long_in}
+use Rattle.gl_text.specs.Flattening.{net, long_in}
+use Rattle.gl_flat.specs.LongNames.{AreCountable}
 use Rattle.gl_flat.proofs.long.long_net.Given as goal
 
 abbrev pub invariant-loop-rest : goal.invariant-loop-rest

@@ -1,6 +1,6 @@
 use Rattle.std.proofs.Common.{◌≡◌, length, map}
-use Rattle.gl_text.specs.Flattening.{net, top_net}
-use Rattle.gl_flat.specs.LongNames.{AreCountable, long_in}
+use Rattle.gl_text.specs.Flattening.{net, top_net, long_in}
+use Rattle.gl_flat.specs.LongNames.{AreCountable}
 use Rattle.gl_flat.proofs.long.long_top.Given as goal
 
 abbrev pub invariant-loop-rest : goal.invariant-loop-rest

@@ -1,6 +1,7 @@
 use Rattle.gl_text.specs.Flattening.{bearers}
 use Rattle.gl_flat.specs.Refusals.{fault_of}
-use Rattle.gl_flat.proofs.SeenLaws.{passed_on, item_added, item_refused}
+use Rattle.gl_fault.proofs.AnswerLaws.{passed_on}
+use Rattle.gl_flat.proofs.SeenLaws.{item_added, item_refused}
 use Rattle.gl_flat.proofs.SeenNumbers.{device_numbered, device_fits}
 use Rattle.gl_flat.proofs.number.number_devices.Goals as goal
 
@@ -22,5 +23,5 @@ loop-device-preserved c =
 
 pub returns-in_err-number_device-clause-refused : goal.returns-in_err-number_device-clause-refused
 returns-in_err-number_device-clause-refused c =
-    passed_on c.from_residual-in_err-number_device.result c.in_err-number_device.field-0.0 _ c.from_residual-in_err-number_device.ensures.1
+    passed_on fault_of c.from_residual-in_err-number_device.result c.in_err-number_device.field-0.0 _ c.from_residual-in_err-number_device.ensures.1
     (item_refused (fault_of c.in_err-number_device.field-0.0) bearers c.args.devices.now c.loop-device.device-index c.device-item.result c.args.seen.now c.loop-device.seen c.loop-device-test.true c.device-item.is c.loop-device.invariant.seen c.in_err-number_device.ensures.refused)

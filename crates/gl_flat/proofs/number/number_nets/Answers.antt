@@ -1,5 +1,6 @@
 use Rattle.gl_flat.specs.Refusals.{fault_of}
-use Rattle.gl_flat.proofs.SeenLaws.{passed_on, net_added, net_refused}
+use Rattle.gl_fault.proofs.AnswerLaws.{passed_on}
+use Rattle.gl_flat.proofs.SeenLaws.{net_added, net_refused}
 use Rattle.gl_flat.proofs.SeenNumbers.{net_numbered, net_fits}
 use Rattle.gl_flat.proofs.number.number_nets.Goals as goal
 
@@ -20,5 +21,5 @@ loop-net-preserved c =
 
 pub returns-in_err-number_net-clause-refused : goal.returns-in_err-number_net-clause-refused
 returns-in_err-number_net-clause-refused c =
-    passed_on c.from_residual-in_err-number_net.result c.in_err-number_net.field-0.0 _ c.from_residual-in_err-number_net.ensures.1
+    passed_on fault_of c.from_residual-in_err-number_net.result c.in_err-number_net.field-0.0 _ c.from_residual-in_err-number_net.ensures.1
     (net_refused (fault_of c.in_err-number_net.field-0.0) c.args.nets.now c.loop-net.net-index c.net-item.result c.args.seen.now c.loop-net.seen c.loop-net-test.true c.net-item.is c.loop-net.invariant.seen c.in_err-number_net.ensures.refused)

@@ -1,5 +1,5 @@
 use Rattle.gl_flat.specs.Refusals.{fault_of}
-use Rattle.gl_flat.proofs.SeenLaws.{passed_on}
+use Rattle.gl_fault.proofs.AnswerLaws.{passed_on}
 use Rattle.gl_flat.proofs.TopNets.{top_added, top_refused, top_numbered, top_fits}
 use Rattle.gl_flat.proofs.number.number_top_nets.Goals as goal
 
@@ -23,5 +23,5 @@ loop-name-preserved c =
 
 pub returns-in_err-number_net-clause-refused : goal.returns-in_err-number_net-clause-refused
 returns-in_err-number_net-clause-refused c =
-    passed_on c.from_residual-in_err-number_net.result c.in_err-number_net.field-0.0 _ c.from_residual-in_err-number_net.ensures.1
+    passed_on fault_of c.from_residual-in_err-number_net.result c.in_err-number_net.field-0.0 _ c.from_residual-in_err-number_net.ensures.1
     (top_refused (fault_of c.in_err-number_net.field-0.0) c.args.names.now c.loop-name.name-index c.name-item.result c.of_top-net.result c.args.seen.now c.loop-name.seen c.loop-name-test.true c.name-item.is c.of_top-net.ensures.net c.loop-name.invariant.seen c.in_err-number_net.ensures.refused)

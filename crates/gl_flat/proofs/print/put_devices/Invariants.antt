@@ -1,6 +1,6 @@
 use Rattle.std.proofs.Common.{◌≡◌, ◌++◌, take}
 use Rattle.std.specs.Prelude.{flat_map}
-use Rattle.gl_flat.specs.Numbered.{device_line}
+use Rattle.gl_flat.specs.Kept.{device_line}
 use Rattle.gl_flat.proofs.print.put_devices.Given as goal
 
 abbrev pub invariant-loop-device : goal.invariant-loop-device

@@ -1,6 +1,6 @@
 use Rattle.std.proofs.Common.{◌≡◌, ◌++◌, take, map}
 use Rattle.gl_card.specs.Lines.{spaced_all}
-use Rattle.gl_flat.specs.Numbered.{name_at}
+use Rattle.gl_base.specs.Reports.{name_at}
 use Rattle.gl_flat.proofs.print.put_nodes.Given as goal
 
 abbrev pub invariant-loop-node : goal.invariant-loop-node

@@ -1,6 +1,6 @@
 use Rattle.std.proofs.Common.{◌≡◌, ◌++◌, take}
 use Rattle.std.specs.Prelude.{flat_map}
-use Rattle.gl_flat.specs.Lengths.{flat_line}
+use Rattle.gl_text.specs.Flattening.{flat_line}
 use Rattle.gl_flat.proofs.text.put_devices.Given as goal
 
 abbrev pub invariant-loop-device : goal.invariant-loop-device

@@ -17,15 +17,15 @@ flat_devices-requires c =
     let p = c.args.parts.now in
     let t = c.args.tables.now in
     subst (All (IsAmongTypes (type_by (get same_text t.words)) t.kinds)) (sym c.devices.ensures.devices)
-    (flat_by_tables (source_of p) (get same_text t.words) t.kinds c.requires.tables.words_are c.requires.tables.kinds_are p.flat.now.devices (flat_among p.flat.now p.library.now))
+    (flat_by_tables (source_of p) (get same_text t.words) t.kinds c.requires.tables.words_are c.requires.tables.kinds_are _ (flat_among p.flat.now p.library.now _))
 
 pub build-requires : goal.build-requires
 build-requires c =
     let p = c.args.parts.now in
     let t = c.args.tables.now in
-    let given = circuit_is p.flat.now p.library.now c.requires.sound c.args.keep.now (get same_text t.words) t.kinds c.requires.tables.words_are c.requires.tables.kinds_are
-    t.nets t.rails c.items.result.now c.args.shapes.items c.devices.result.now c.in_ok-devices.devices.items c.count.result c.in_ok-rails.rails.items c.in_ok-pinned.pinned.items (option_copied c.top.result)
-    c.requires.tables.nets_are c.items.ensures.items c.requires.tables.rails_are c.requires.shapes c.devices.ensures.devices c.top.ensures.top
+    let given = circuit_is p.flat.now p.library.now c.args.keep.now (get same_text t.words) t.kinds c.requires.tables.words_are c.requires.tables.kinds_are
+    c.nets-nets.result.now t.rails c.items.result.now c.args.shapes.items c.devices.result.now c.in_ok-devices.devices.items c.count.result c.in_ok-rails.rails.items c.in_ok-pinned.pinned.items (option_copied c.top.result)
+    c.nets-nets.ensures.nets c.items.ensures.items c.requires.tables.rails_are c.requires.shapes c.devices.ensures.devices c.top.ensures.top
     c.in_ok-devices.ensures.devices c.count.ensures.count c.in_ok-rails.ensures.nets c.in_ok-pinned.ensures.pinned in
     record { size = circuit_few (keeping c.args.keep.now (source_of p)) (keeping_sound c.args.keep.now (source_of p) c.requires.sound.source) _ given }
 
@@ -33,9 +33,9 @@ pub returns-in-Ok : goal.returns-in-Ok
 returns-in-Ok c =
     let p = c.args.parts.now in
     let t = c.args.tables.now in
-    let given = circuit_is p.flat.now p.library.now c.requires.sound c.args.keep.now (get same_text t.words) t.kinds c.requires.tables.words_are c.requires.tables.kinds_are
-    t.nets t.rails c.items.result.now c.args.shapes.items c.devices.result.now c.in_ok-devices.devices.items c.count.result c.in_ok-rails.rails.items c.in_ok-pinned.pinned.items (option_copied c.top.result)
-    c.requires.tables.nets_are c.items.ensures.items c.requires.tables.rails_are c.requires.shapes c.devices.ensures.devices c.top.ensures.top
+    let given = circuit_is p.flat.now p.library.now c.args.keep.now (get same_text t.words) t.kinds c.requires.tables.words_are c.requires.tables.kinds_are
+    c.nets-nets.result.now t.rails c.items.result.now c.args.shapes.items c.devices.result.now c.in_ok-devices.devices.items c.count.result c.in_ok-rails.rails.items c.in_ok-pinned.pinned.items (option_copied c.top.result)
+    c.nets-nets.ensures.nets c.items.ensures.items c.requires.tables.rails_are c.requires.shapes c.devices.ensures.devices c.top.ensures.top
     c.in_ok-devices.ensures.devices c.count.ensures.count c.in_ok-rails.ensures.nets c.in_ok-pinned.ensures.pinned in
     record { circuit = c.in-Ok.ensures.answer.0 ∙ given }
 
@@ -43,8 +43,8 @@ pub want_of_memory-requires : goal.want_of_memory-requires
 want_of_memory-requires c =
     let p = c.args.parts.now in
     let t = c.args.tables.now in
-    let given = circuit_is p.flat.now p.library.now c.requires.sound c.args.keep.now (get same_text t.words) t.kinds c.requires.tables.words_are c.requires.tables.kinds_are
-    t.nets t.rails c.items.result.now c.args.shapes.items c.devices.result.now c.in_ok-devices.devices.items c.count.result c.in_ok-rails.rails.items c.in_ok-pinned.pinned.items (option_copied c.top.result)
-    c.requires.tables.nets_are c.items.ensures.items c.requires.tables.rails_are c.requires.shapes c.devices.ensures.devices c.top.ensures.top
+    let given = circuit_is p.flat.now p.library.now c.args.keep.now (get same_text t.words) t.kinds c.requires.tables.words_are c.requires.tables.kinds_are
+    c.nets-nets.result.now t.rails c.items.result.now c.args.shapes.items c.devices.result.now c.in_ok-devices.devices.items c.count.result c.in_ok-rails.rails.items c.in_ok-pinned.pinned.items (option_copied c.top.result)
+    c.nets-nets.ensures.nets c.items.ensures.items c.requires.tables.rails_are c.requires.shapes c.devices.ensures.devices c.top.ensures.top
     c.in_ok-devices.ensures.devices c.count.ensures.count c.in_ok-rails.ensures.nets c.in_ok-pinned.ensures.pinned in
     only_memory _ _ (circuit_unrefused (keeping c.args.keep.now (source_of p)) (keeping_sound c.args.keep.now (source_of p) c.requires.sound.source) _ given) c.in-Err.ensures.answer

@@ -7,13 +7,13 @@ use Rattle.gl_lib.proofs.SoundLaws.{cell_places, ports_few, shapes_are_short}
 use Rattle.gl_lib.proofs.BuildLaws.{only_memory, ports_numbered, pattern_small, pattern_unrefused, cell_by_tables, pattern_is}
 use Rattle.gl_lib.proofs.building.build_pattern.Goals as goal
 
-pub of_nets-requires : goal.of_nets-requires
-of_nets-requires c =
+pub net_table-requires : goal.net_table-requires
+net_table-requires c =
     let cards = map (λ d. d.now) c.args.cards.now in
     omega (arith, cell_places (source_of c.args.parts.now) c.requires.sound.source c.args.head.now cards c.requires.among c.requires.whole)
 
-pub of-requires : goal.of-requires
-of-requires c =
+pub name_table-requires : goal.name_table-requires
+name_table-requires c =
     let cards = map (λ d. d.now) c.args.cards.now in
     let same = ap length c.ports-port_names.ensures.ports in
     omega (arith, same, ports_few (source_of c.args.parts.now) c.requires.sound.source c.args.head.now cards c.requires.among c.requires.whole)

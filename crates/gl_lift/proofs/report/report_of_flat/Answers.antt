@@ -6,9 +6,8 @@ use Rattle.gl_match.specs.declared.role.Pick.{Pick}
 use Rattle.gl_match.specs.Graph.{Circuit, Pattern, FitsInto}
 use Rattle.gl_match.specs.Listing.{Instance}
 use Rattle.gl_base.specs.BaseCircuit.{Source, circuit_of}
-use Rattle.gl_base.specs.Rounds.{cells_at, searched, cell_pattern, IsRound}
+use Rattle.gl_base.specs.Rounds.{source_of, cells_at, searched, cell_pattern, IsRound}
 use Rattle.gl_base.specs.RoundReports.{left_of}
-use Rattle.gl_lib.specs.Sources.{source_in}
 use Rattle.gl_report.specs.Naming.{first_report}
 use Rattle.gl_lift.specs.Reported.{round_names}
 use Rattle.gl_lift.proofs.Named.{device_count}
@@ -33,7 +32,7 @@ pub returns : goal.returns
 returns c =
     let flat = c.args.flat.now in
     let library = c.args.library.now in
-    let source : Source = source_in flat library in
+    let source : Source = source_of flat library in
     let patterns : List Pattern = map (cell_pattern source) (searched (cells_at 0 library)) in
     let lists = c.in_ok-round.round.lists.items in
     let items : List (Vec Pick Global) → List (List Pick) = map (λ (v : Vec Pick Global). v.items) in

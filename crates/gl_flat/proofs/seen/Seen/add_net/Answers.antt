@@ -11,5 +11,5 @@ returns-clause-number c =
     let m = c.args.added.now in
     let es = c.self.inside.nets.entries in
     let none : lookup (same_text (net_name m)) es ≡ None = search rules in
-    let inserted : c.insert.new.self.entries ≡ insert_entry same_text es (net_name m) m = search rules in
-    number_new es c.insert.new.self.entries (net_name m) m c.len-number.result c.len-number.ensures.len none inserted
+    let inserted : c.insert-2.new.self.entries ≡ insert_entry same_text es (net_name m) m = search rules in
+    number_new es c.insert-2.new.self.entries (net_name m) m c.len-number.result c.len-number.ensures.len none inserted

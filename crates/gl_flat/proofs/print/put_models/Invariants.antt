@@ -1,7 +1,0 @@
-use Rattle.std.proofs.Common.{◌≡◌, ◌++◌, take}
-use Rattle.std.specs.Prelude.{flat_map}
-use Rattle.gl_flat.specs.Numbered.{model_line}
-use Rattle.gl_flat.proofs.print.put_models.Given as goal
-
-abbrev pub invariant-loop-model : goal.invariant-loop-model
-invariant-loop-model l = l.out.items ≡ l.fn.out.items ++ flat_map model_line (take l.model-index l.models)

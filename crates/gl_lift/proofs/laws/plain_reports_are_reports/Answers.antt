@@ -1,0 +1,5 @@
+use Rattle.gl_lift.proofs.Plain.{plain_report}
+use Rattle.gl_lift.proofs.laws.plain_reports_are_reports.Goals as goal
+
+pub returns : goal.returns
+returns c = record { report = plain_report }
