@@ -1,15 +1,11 @@
 ghost use Rattle.std.specs.Prelude.{◌≡◌};
 ghost use Rattle.gl_desk.specs.declared.fault.ReadFault.TheVariants.{Failed as DeskFailed, Memory as NoMemory};
 
-use std::alloc::{AllocError, AllocFailed};
+use std::alloc::AllocError;
 
 /// A call of a desk failed.
 #[derive(Clone, Copy, Debug, PartialEq, Eq)]
 pub struct Failed;
-
-/// No memory was found.
-#[derive(Clone, Copy, Debug, PartialEq, Eq)]
-pub struct Memory;
 
 /// Why a whole read failed.
 #[derive(Clone, Copy, Debug, PartialEq, Eq)]
@@ -23,18 +19,6 @@ pub enum ReadFault {
     },
     /// No memory was found.
     Memory,
-}
-
-impl From<AllocError> for Memory {
-    fn from(_: AllocError) -> Self {
-        Memory
-    }
-}
-
-impl<T: Drop> From<AllocFailed<T>> for Memory {
-    fn from(_: AllocFailed<T>) -> Self {
-        Memory
-    }
 }
 
 impl From<Failed> for ReadFault {

@@ -14,7 +14,8 @@ mod write;
 
 pub use calls::CallKind;
 pub use desk::Desk;
-pub use fault::{Failed, Memory, ReadFault};
+pub use fault::{Failed, ReadFault};
+pub use gl_fault::Memory;
 pub use memory_desk::MemoryDesk;
 pub use read::read_all;
 pub use real_desk::RealDesk;

@@ -141,6 +141,9 @@ impl Desk for MemoryDesk {
             (NotOpened slot name.now (wanted_of self.old slot) (view_of self.old slot) (view_of self.new slot)) }
         ensures others { OthersSame view_of self.old self.new slot }
         ensures names { NamesSame held_by wanted_of self.old self.new }
+        // Its count rises only where it fails.
+        ensures steady { OnOk result
+            ((view_of self.new slot).faults ≡ (view_of self.old slot).faults) }
         // Another name than the wanted one is no fault.
         ensures refused { MustFail self.old slot name.now → IsErr result }
         ensures other_name { WantsOther (wanted_of self.old slot) name.now →
@@ -165,6 +168,9 @@ impl Desk for MemoryDesk {
         ensures failed { OnErr result (Fails (view_of self.old slot) (view_of self.new slot)) }
         ensures others { OthersSame view_of self.old self.new slot }
         ensures names { NamesSame held_by wanted_of self.old self.new }
+        // Its count rises only where it fails.
+        ensures steady { OnOk result
+            ((view_of self.new slot).faults ≡ (view_of self.old slot).faults) }
         // It fails exactly where the call is to fail, and takes as much as there is, at most a piece.
         ensures due { IsErr result ↔ IsDue (calls_of self.old CallKind.Take) }
         ensures size { IfOk result (λ n. n ≡ taken_size self.old slot (length buf.new)) }
@@ -185,6 +191,9 @@ impl Desk for MemoryDesk {
         ensures failed { OnErr result (Fails (view_of self.old slot) (view_of self.new slot)) }
         ensures others { OthersSame view_of self.old self.new slot }
         ensures names { NamesSame held_by wanted_of self.old self.new }
+        // Its count rises only where it fails.
+        ensures steady { OnOk result
+            ((view_of self.new slot).faults ≡ (view_of self.old slot).faults) }
         // It fails where the call is to fail, and gives all, at most a piece.
         ensures due { IsDue (calls_of self.old CallKind.Give) → IsErr result }
         ensures size { IfOk result (λ n. n ≡ min (length bytes.now) (piece_of self.old)) }

@@ -1,4 +1,4 @@
-ghost use Rattle.std.specs.Prelude.{◌≡◌, ◌+◌, ◌<◌, ◌⊎◌, [], true, length, IfOk, IfSome, IfErr, IsErrOf, OnOk, OnErr};
+ghost use Rattle.std.specs.Prelude.{◌≡◌, ◌+◌, ◌<◌, [], true, length, IfOk, IfSome, IfErr, IsErrOf, OnOk, OnErr};
 ghost use Rattle.gl_desk.specs.Desk.{IsInput, Takes, TakesSome, Caused, OthersSame, NamesSame};
 
 use crate::{Desk, ReadFault, Slot};
@@ -23,21 +23,23 @@ pub fn read_all<D: Desk>(alloc: Global, desk: &mut D, slot: Slot) -> Result<Vec<
     ensures taken { IfOk result (λ all. Takes (D.shows desk.old slot) (D.shows desk.new slot) all.items) }
     ensures lost { OnErr result (TakesSome (D.shows desk.old slot) (D.shows desk.new slot)) }
     ensures cause { IfErr result (λ fault. Caused fault (D.shows desk.old slot) (D.shows desk.new slot)) }
-    // It is too long wherever one byte too many was taken, unless that byte found no memory.
-    ensures short { (D.shows desk.new slot).taken ≡ (D.shows desk.old slot).taken + 67108865 →
-        IsErrOf result (ReadFault.Long 67108865) ⊎ IsErrOf result ReadFault.Memory }
+    // It is too long wherever one byte too many was taken: no memory is asked for that byte.
+    ensures long { (D.shows desk.new slot).taken ≡ (D.shows desk.old slot).taken + 67108865 →
+        IsErrOf result (ReadFault.Long 67108865) }
     ensures others { OthersSame D.shows desk.old desk.new slot }
     ensures names { NamesSame D.held D.wants desk.old desk.new }
 {
     let mut all = Vec::new(alloc);
     let mut piece = [0u8; PIECE];
-    while all.len() < TOO_LONG {
+    loop {
         let room = (TOO_LONG - all.len()).min(PIECE);
         let count = desk.take(slot, &mut piece[..room])?;
         if count == 0 {
             return Ok(all);
         }
+        if all.len() + count == TOO_LONG {
+            return Err(ReadFault::Long { number: 67_108_865 });
+        }
         all.extend_from_slice(&piece[..count])?;
     }
-    Err(ReadFault::Long { number: 67_108_865 })
 }

@@ -125,6 +125,7 @@ impl Seat {
         ensures size { result ≡
             min (min (length self.old.bytes.items - self.old.mark) (length buf.new)) piece }
         ensures end { result ≡ 0 → IfSome (seat_view true self.new).left (λ rest. rest ≡ []) }
+        ensures steady { self.new.faults ≡ self.old.faults }
         ensures wants { seat_wants self.new ≡ seat_wants self.old }
     {
         let rest = &self.bytes[self.mark..];
@@ -149,6 +150,7 @@ impl Seat {
         ensures end { IfOk result (λ n. n ≡ 0 →
             IfSome (seat_view true self.new).left (λ rest. rest ≡ [])) }
         ensures failed { OnErr result (Fails (seat_view true self.old) (seat_view true self.new)) }
+        ensures steady { OnOk result (self.new.faults ≡ self.old.faults) }
         ensures due { IsErr result ↔ IsTrue is_due }
         ensures size { IfOk result (λ n. n ≡
             min (min (length self.old.bytes.items - self.old.mark) (length buf.new)) piece) }
@@ -171,6 +173,7 @@ impl Seat {
             Gives (seat_view false self.old) (seat_view false self.new) (take n bytes.now)) }
         ensures failed { OnErr result
             (Fails (seat_view false self.old) (seat_view false self.new)) }
+        ensures steady { OnOk result (self.new.faults ≡ self.old.faults) }
         ensures due { IsTrue is_due → IsErr result }
         ensures size { IfOk result (λ n. n ≡ min (length bytes.now) piece) }
         ensures wants { seat_wants self.new ≡ seat_wants self.old }

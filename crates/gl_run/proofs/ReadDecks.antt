@@ -5,7 +5,7 @@ use Rattle.gl_text.specs.LogicalLines.{Fault}
 use Rattle.gl_text.specs.Decks.{Deck, read_deck}
 use Rattle.gl_base.specs.Libraries.{Library}
 use Rattle.gl_base.specs.Lifting.{flat_deck, taken_library}
-use Rattle.gl_flat.specs.Refusals.{IsRefusal}
+use Rattle.gl_fault.specs.Refusals.{IsRefusal}
 use Rattle.gl_lift.specs.Liftable.{IsLiftable}
 use Rattle.gl_run.specs.declared.ending.Ending.{Ending}
 use Rattle.gl_run.specs.declared.ending.Ending.TheVariants as endings

@@ -1,7 +1,8 @@
 -- The flat text of a deck, and how its refusals are told.
 use Rattle.std.specs.Prelude.{◌≡◌, ℕ, List, Option, None, Some, Result, Ok}
 use Rattle.gl_text.specs.LogicalLines.{Fault}
-use Rattle.gl_text.specs.Decks.{◌>>=◌, Deck}
+use Rattle.gl_fault.specs.Refusals.{◌>>=◌}
+use Rattle.gl_text.specs.Decks.{Deck}
 use Rattle.gl_text.specs.Flattening.{flatten, flat_text}
 use Rattle.gl_run.specs.declared.ending.Ending.{Ending}
 use Rattle.gl_run.specs.declared.ending.Ending.TheVariants as endings

@@ -4,7 +4,7 @@ ghost use Rattle.gl_base.specs.Lifting.{refused};
 ghost use Rattle.gl_cells.specs.Causes.{cause_of};
 ghost use Rattle.gl_run.specs.Refusals.{library_cause};
 
-use crate::read_refusal::{Refusal, refusal_of};
+use crate::read_refusal::Refusal;
 use gl_cells::{LibFault, Limit, Name};
 
 /// Why a file is no library that is taken: the refusals of libraries, without want of memory, and a card that is not taken yet.
@@ -40,12 +40,41 @@ pub enum LibraryRefusal {
     },
 }
 
+/// A refusal of reading, of a library.
+fn read(refusal: Refusal) -> Option<LibraryRefusal>
+    ensures read { result ≡ Some (LibraryRefusal.Read refusal) }
+{
+    Some(LibraryRefusal::Read(refusal))
+}
+
 /// The refusal that a fault tells; nothing for want of memory.
 pub fn library_refusal_of(fault: LibFault) -> Option<LibraryRefusal>
     ensures refusal { option_map library_cause result ≡ option_map refused (cause_of fault) }
 {
     match fault {
-        LibFault::Refused(fault) => refusal_of(fault).map(LibraryRefusal::Read),
+        LibFault::LoosePlus { line } => read(Refusal::LoosePlus { line }),
+        LibFault::LongLine { line, len } => read(Refusal::LongLine { line, len }),
+        LibFault::LongName { line, len } => read(Refusal::LongName { line, len }),
+        LibFault::UnknownCard { line, byte } => read(Refusal::UnknownCard { line, byte }),
+        LibFault::ShortCard { line, has, needs } => read(Refusal::ShortCard { line, has, needs }),
+        LibFault::ControlBlock { line } => read(Refusal::ControlBlock { line }),
+        LibFault::NestedSubckt { line } => read(Refusal::NestedSubckt { line }),
+        LibFault::LooseEnds { line } => read(Refusal::LooseEnds { line }),
+        LibFault::WrongEnds { line } => read(Refusal::WrongEnds { line }),
+        LibFault::OpenSubckt { line } => read(Refusal::OpenSubckt { line }),
+        LibFault::LocalCard { line } => read(Refusal::LocalCard { line }),
+        LibFault::Parameters { line } => read(Refusal::Parameters { line }),
+        LibFault::DuplicateName { line, first } => read(Refusal::DuplicateName { line, first }),
+        LibFault::DuplicatePort { line } => read(Refusal::DuplicatePort { line }),
+        LibFault::ZeroPort { line } => read(Refusal::ZeroPort { line }),
+        LibFault::LongTail { line, len } => read(Refusal::LongTail { line, len }),
+        LibFault::UnknownSubckt { line } => read(Refusal::UnknownSubckt { line }),
+        LibFault::WrongNodeCount { line, has, needs } => read(Refusal::WrongNodeCount {
+            line,
+            has,
+            needs,
+        }),
+        LibFault::Recursive { line } => read(Refusal::Recursive { line }),
         LibFault::TopCard { line } => Some(LibraryRefusal::TopCard { line }),
         LibFault::CellLimit { cell, what, number } => {
             Some(LibraryRefusal::CellLimit { cell, what, number })

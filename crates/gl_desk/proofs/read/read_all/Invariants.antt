@@ -2,16 +2,16 @@ use Rattle.std.proofs.Common.{◌≡◌, ◌≤◌, ◌-◌, true, vec_len}
 use Rattle.gl_desk.specs.Desk.{Takes, OthersSame, NamesSame}
 use Rattle.gl_desk.proofs.read.read_all.Given as goal
 
-abbrev pub invariant-loop-slot : goal.invariant-loop-slot
-invariant-loop-slot g l =
+abbrev pub invariant-loop-all : goal.invariant-loop-all
+invariant-loop-all g l =
     let shows = g.D.Desk.shows in
     record {
       takes : Takes (shows l.fn.desk l.slot) (shows l.desk l.slot) l.all.items;
-      few : vec_len l.all ≤ 67108865;
+      few : vec_len l.all ≤ 67108864;
       used : (shows l.desk l.slot).used ≡ true;
       others : OthersSame shows l.fn.desk l.desk l.slot;
       names : NamesSame g.D.Desk.held g.D.Desk.wants l.fn.desk l.desk;
     }
 
-abbrev pub decreases-loop-slot : goal.decreases-loop-slot
-decreases-loop-slot g l = 67108865 - vec_len l.all
+abbrev pub decreases-loop-all : goal.decreases-loop-all
+decreases-loop-all g l = 67108865 - vec_len l.all

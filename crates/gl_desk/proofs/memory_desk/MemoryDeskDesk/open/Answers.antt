@@ -70,3 +70,14 @@ returns-clause-other_name c =
     let wants = wants_here seats slot i d c.place.ensures.place within in
     λ other. seat_does (λ v w. w ≡ v) seats slot i c.open.new.self d c.place.ensures.place within
     ((c.open.ensures.other_name (subst (λ w. WantsOther w c.args.name.now) (sym wants) other)).1.shows (is_input slot))
+
+pub returns-clause-steady : goal.returns-clause-steady
+returns-clause-steady c =
+    let seats = c.args.self.now.seats in
+    let i = c.place.result in
+    let d = c.index-self-place.result in
+    let within : i < length seats = omega arith in
+    on_ok_weaker c.open.result
+    (λ s. let there = content_there (get_or seats i d) c.open.new.self c.content_of-content.result s in
+    seat_does (λ v w. w.faults ≡ v.faults) seats c.args.slot i c.open.new.self d c.place.ensures.place within there.2.faults)
+    c.open.ensures.started

@@ -1,0 +1,4 @@
+pub mod Fronts
+pub mod Same
+pub mod Outputs
+pub mod Laws

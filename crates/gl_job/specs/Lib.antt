@@ -1,0 +1,5 @@
+pub mod Texts
+pub mod Runs
+pub mod Courses
+pub mod Claims
+pub mod Outputs
