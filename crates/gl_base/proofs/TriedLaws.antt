@@ -18,11 +18,11 @@ use Rattle.gl_lists.proofs.Membership.{in_map, in_flat_map, in_filter, in_head, 
 use Rattle.gl_match.proofs.Says.{all_says, all_zip_says}
 use Rattle.gl_match.proofs.LegalTestLaws.{suits_if, legal_says, legal_if}
 use Rattle.gl_match.proofs.ListingLaws.{keys_exact, key_total}
-use Rattle.gl_base.specs.Tried.{spots_near, spots_of, maps_of, legal_maps, ascends, has_key, is_instance, is_listed}
+use Rattle.gl_base.specs.Tried.{spots_near, spots_of, maps_of, legal_maps, ascends, has_key, is_instance, is_listed_by, is_listed}
 use Rattle.gl_lists.proofs.Orders.{is_less, is_equal}
 
 -- a spot that suits is among the spots
-in_spots : (c : Circuit) (part : Device) (s : Spot) → Suits c part s → Contains (spots_of c part) s
+pub in_spots : (c : Circuit) (part : Device) (s : Spot) → Suits c part s → Contains (spots_of c part) s
 in_spots c part s h =
     let turns = length (turns_of (shape_at c part.kind)) in
     let spot_at : ℕ → ℕ → Spot = λ dev turn. record { dev = dev; turn = turn } in
@@ -67,12 +67,6 @@ has (l ∷ keys) k e =
       | inr on ↦ in_tail l keys k (has keys k on)
     ]
 
--- the key of each legal map is among keys that hold all of them
-key_of_all : (c : Circuit) (p : Pattern) (keys : List Key) → list_all (λ m. has_key keys (key_of c p m)) (legal_maps c p) ≡ true → (m : List Spot) → IsSought c p m → Contains keys (key_of c p m)
-key_of_all c p keys e m h =
-    let P : List Spot → Type 0 = λ n. Contains keys (key_of c p n) in
-    All-contains P (legal_maps c p) m (all_says (λ n. has_key keys (key_of c p n)) P (λ n t. has keys (key_of c p n) t) (legal_maps c p) e) (in_legal c p m h)
-
 -- equal keys pass the test
 self_equal : (k l : Key) → k ≡ l → eq_by_cmp key_cmp k l ≡ true
 self_equal k l e = subst (λ x. eq_by_cmp key_cmp k x ≡ true) e (keys_same k)
@@ -85,37 +79,47 @@ self_equal k l e = subst (λ x. eq_by_cmp key_cmp k x ≡ true) e (keys_same k)
     keys_same : (k : Key) → eq_by_cmp key_cmp k k ≡ true
     keys_same k = by (key_cmp k k) (key_total.antisymm k k)
 
-one_instance : (c : Circuit) (p : Pattern) (i : Instance) → is_instance c p (legal_maps c p) i ≡ true → IsInstance c p i
-one_instance c p i e =
-    let none : List Spot → Bool = λ m. not (eq_by_cmp key_cmp (key_of c p m) i.key) || not (is_lt (map_cmp m i.least)) in
-    let parts = and_parts (is_legal c p i.least && eq_by_cmp key_cmp (key_of c p i.least) i.key) (list_all none (legal_maps c p)) e in
-    let first = and_parts (is_legal c p i.least) (eq_by_cmp key_cmp (key_of c p i.least) i.key) parts.0 in
-    record {
-      legal = legal_says c p i.least first.0;
-      key_is = same_key (key_of c p i.least) i.key first.1;
-      least_is = λ m h k.
-          let t : none m ≡ true = All-contains (λ n. none n ≡ true) (legal_maps c p) m (all_says none (λ n. none n ≡ true) (λ n t. t) (legal_maps c p) parts.1) (in_legal c p m h) in
-          elim (or_cases (not (eq_by_cmp key_cmp (key_of c p m) i.key)) (not (is_lt (map_cmp m i.least))) t) [
-            | inl other ↦
-                let off : eq_by_cmp key_cmp (key_of c p m) i.key ≡ false = not-true (eq_by_cmp key_cmp (key_of c p m) i.key) other in
-                let on : eq_by_cmp key_cmp (key_of c p m) i.key ≡ true = self_equal (key_of c p m) i.key k in
-                absurd cc
-            | inr off ↦ not-true (is_lt (map_cmp m i.least)) off
-          ];
-    }
+-- where the legal maps are among these
+module _ (c : Circuit) (p : Pattern) (legal : List (List Spot)) (known : (m : List Spot) → IsSought c p m → Contains legal m) where
+  -- the key of each legal map is among keys that hold all of them
+  key_of_all : (keys : List Key) → list_all (λ m. has_key keys (key_of c p m)) legal ≡ true → (m : List Spot) → IsSought c p m → Contains keys (key_of c p m)
+  key_of_all keys e m h =
+      let P : List Spot → Type 0 = λ n. Contains keys (key_of c p n) in
+      All-contains P legal m (all_says (λ n. has_key keys (key_of c p n)) P (λ n t. has keys (key_of c p n) t) legal e) (known m h)
 
-pub listed_is : (c : Circuit) (p : Pattern) (items : List Instance) → is_listed c p items ≡ true → Listed c p items
-listed_is c p items e =
-    let keys : List Key = map (λ (i : Instance). i.key) items in
-    let legal = legal_maps c p in
-    let all : Bool = list_all (λ m. has_key keys (key_of c p m)) legal in
-    let parts = and_parts (ascends keys && all) (list_all (is_instance c p legal) items) e in
-    let first = and_parts (ascends keys) all parts.0 in
-    record {
-      ascend = ascend keys first.0;
-      all = key_of_all c p keys first.1;
-      each = all_says (is_instance c p legal) (IsInstance c p) (one_instance c p) items parts.1;
-    }
+  one_instance : (i : Instance) → is_instance c p legal i ≡ true → IsInstance c p i
+  one_instance i e =
+      let none : List Spot → Bool = λ m. not (eq_by_cmp key_cmp (key_of c p m) i.key) || not (is_lt (map_cmp m i.least)) in
+      let parts = and_parts (is_legal c p i.least && eq_by_cmp key_cmp (key_of c p i.least) i.key) (list_all none legal) e in
+      let first = and_parts (is_legal c p i.least) (eq_by_cmp key_cmp (key_of c p i.least) i.key) parts.0 in
+      record {
+        legal = legal_says c p i.least first.0;
+        key_is = same_key (key_of c p i.least) i.key first.1;
+        least_is = λ m h k.
+            let t : none m ≡ true = All-contains (λ n. none n ≡ true) legal m (all_says none (λ n. none n ≡ true) (λ n t. t) legal parts.1) (known m h) in
+            elim (or_cases (not (eq_by_cmp key_cmp (key_of c p m) i.key)) (not (is_lt (map_cmp m i.least))) t) [
+              | inl other ↦
+                  let off : eq_by_cmp key_cmp (key_of c p m) i.key ≡ false = not-true (eq_by_cmp key_cmp (key_of c p m) i.key) other in
+                  let on : eq_by_cmp key_cmp (key_of c p m) i.key ≡ true = self_equal (key_of c p m) i.key k in
+                  absurd cc
+              | inr off ↦ not-true (is_lt (map_cmp m i.least)) off
+            ];
+      }
+
+  pub listed_by : (items : List Instance) → is_listed_by c p legal items ≡ true → Listed c p items
+  listed_by items e =
+      let keys : List Key = map (λ (i : Instance). i.key) items in
+      let all : Bool = list_all (λ m. has_key keys (key_of c p m)) legal in
+      let parts = and_parts (ascends keys && all) (list_all (is_instance c p legal) items) e in
+      let first = and_parts (ascends keys) all parts.0 in
+      record {
+        ascend = ascend keys first.0;
+        all = key_of_all keys first.1;
+        each = all_says (is_instance c p legal) (IsInstance c p) one_instance items parts.1;
+      }
+
+listed_is : (c : Circuit) (p : Pattern) (items : List Instance) → is_listed c p items ≡ true → Listed c p items
+listed_is c p items e = listed_by c p (legal_maps c p) (in_legal c p) items e
 
 pub lists_are : (c : Circuit) (patterns : List Pattern) (lists : List (List Instance)) → all_zip (is_listed c) patterns lists ≡ true → AllZip (Listed c) patterns lists
 lists_are c patterns lists e = all_zip_says (is_listed c) (Listed c) (listed_is c) patterns lists e

@@ -5,8 +5,7 @@ use Rattle.std.proofs.lemmas.Bool.{and_parts, and_from, eqb-true, eq-eqb}
 use Rattle.gl_text.specs.LogicalLines.{same_text}
 use Rattle.gl_base.specs.TypeNames.{TypeName, of_word, of_model, of_letter, of_cell, same_type, each_once}
 use Rattle.std.specs.Cmp.{IsEquivalence}
-use Rattle.gl_lists.proofs.EachOnce.{once_by}
-use Rattle.gl_lists.proofs.EachOnce.{same_if, differ_if}
+use Rattle.gl_lists.proofs.EachOnce.{once_by, same_if, differ_if}
 use Rattle.gl_base.proofs.TextLaws as text
 
 pub exact : (x y : TypeName) → same_type x y ≡ true → x ≡ y

@@ -2,7 +2,8 @@
 use Rattle.std.specs.Prelude.{ℕ, not, List, [], ◌∷◌, ◌++◌, length, map, filter, flat_map, zip, codes, Option, Some, None}
 use Rattle.std.specs.List.{count_by, enumerate_from, range_with_len}
 use Rattle.std.specs.Fmt.{decimal}
-use Rattle.gl_text.specs.Decks.{Body, dev_at, call_at, Sub}
+use Rattle.gl_text.specs.Decks.{Sub}
+pub use Rattle.gl_text.specs.Decks.{body_name as card_name}
 use Rattle.gl_match.specs.declared.spot.Spot.{Spot}
 use Rattle.gl_match.specs.declared.role.Pick.{Pick}
 use Rattle.gl_match.specs.declared.role.Pick.TheVariants.{Taken, Over}
@@ -41,11 +42,6 @@ fate_words stem (Over number) = codes "over" ∷ instance_name stem number ∷ [
 -- each port of a cell with the net of the binding
 abbrev pub port_words : List (List ℕ) → Sub → Instance → List (List ℕ)
 port_words nets cell i = parts cell.head.ports (map (name_at nets) i.key.binding)
-
--- the name of a card
-abbrev pub card_name : Body → List ℕ
-card_name (dev_at line d) = d.name
-card_name (call_at line c) = c.name
 
 -- each card of a cell with its image under the least map
 abbrev pub image_words : List (List ℕ) → Sub → Instance → List (List ℕ)

@@ -53,7 +53,11 @@ abbrev pub is_instance : Circuit → Pattern → List (List Spot) → Instance �
 is_instance c p legal i = is_legal c p i.least && eq_by_cmp key_cmp (key_of c p i.least) i.key
     && list_all (λ m. not (eq_by_cmp key_cmp (key_of c p m) i.key) || not (is_lt (map_cmp m i.least))) legal
 
+-- the list is complete, where these are the legal maps
+abbrev pub is_listed_by : Circuit → Pattern → List (List Spot) → List Instance → Bool
+is_listed_by c p legal items = let keys = map (λ (i : Instance). i.key) items in
+    ascends keys && list_all (λ m. has_key keys (key_of c p m)) legal && list_all (is_instance c p legal) items
+
 -- the list is complete, by trying all maps
 abbrev pub is_listed : Circuit → Pattern → List Instance → Bool
-is_listed c p items = let legal = legal_maps c p in let keys = map (λ (i : Instance). i.key) items in
-    ascends keys && list_all (λ m. has_key keys (key_of c p m)) legal && list_all (is_instance c p legal) items
+is_listed c p items = is_listed_by c p (legal_maps c p) items

@@ -19,8 +19,10 @@ ghost use Rattle.gl_match.specs.Listing.{Instance, Listed};
 /// Each name stands once, and no other name stands there.
 pub fn names_stand_once()
     ensures differ { (names : List (List ℕ)) → has_twice (once names) ≡ false }
-    ensures kept { (names : List (List ℕ)) (name : List ℕ) → Contains names name → Contains (once names) name }
-    ensures none_new { (names : List (List ℕ)) (name : List ℕ) → Contains (once names) name → Contains names name }
+    ensures kept { (names : List (List ℕ)) (name : List ℕ)
+        → Contains names name → Contains (once names) name }
+    ensures none_new { (names : List (List ℕ)) (name : List ℕ)
+        → Contains (once names) name → Contains names name }
 {}
 
 /// The rails of a run differ, and `0` is none of them.
@@ -30,7 +32,9 @@ pub fn rails_differ()
 
 /// The number of the net at a place of a device leads back to the name there.
 pub fn numbers_lead_back()
-    ensures name { (devices : List Card) (card : Card) (name : List ℕ) → Contains devices card → Contains card.nodes name → slice_get (nets_of devices) (net_number (nets_of devices) name) ≡ Some name }
+    ensures name { (devices : List Card) (card : Card) (name : List ℕ)
+        → Contains devices card → Contains card.nodes name
+        → slice_get (nets_of devices) (net_number (nets_of devices) name) ≡ Some name }
 {}
 
 /// The test of types is true of equal types alone, and an equivalence.
@@ -41,6 +45,8 @@ pub fn same_types_are_equal()
 
 /// The stem and the lists that are computed by trying are those of the definitions, where the tests hold.
 pub fn tried_stems_and_lists()
-    ensures stem { (names : List (List ℕ)) → list_any (stands_in (stem_of names)) names ≡ false → IsStem names (stem_of names) }
-    ensures lists { (c : Graph) (patterns : List Cell) (lists : List (List Instance)) → all_zip (is_listed c) patterns lists ≡ true → AllZip (Listed c) patterns lists }
+    ensures stem { (names : List (List ℕ))
+        → list_any (stands_in (stem_of names)) names ≡ false → IsStem names (stem_of names) }
+    ensures lists { (c : Graph) (patterns : List Cell) (lists : List (List Instance))
+        → all_zip (is_listed c) patterns lists ≡ true → AllZip (Listed c) patterns lists }
 {}

@@ -6,6 +6,7 @@ use Rattle.gl_match.specs.Graph.{is_in}
 use Rattle.gl_match.proofs.Lists.{in_cons, in_head, in_none, in_tail}
 use Rattle.gl_match.specs.Picks.{first_that, meets}
 use Rattle.gl_legal.proofs.Prefixes.{in_if, in_says}
+pub use Rattle.std.proofs.lemmas.Option.{same_Some as some_is}
 
 -- two sets have a device in common
 abbrev pub Share : List ℕ → List ℕ → Type 0
@@ -26,9 +27,6 @@ meets_if (x ∷ xs) ys h = elim (in_cons x xs h.0 h.1) [
 ]
 
 -- ---- the first that passes
-
-pub some_is : (a b : ℕ) → Some a ≡ Some b → a ≡ b
-some_is a b e = cc
 
 pub none_passes : (test : List ℕ → Bool) (n : ℕ) (chosen : List (List ℕ)) (m : ℕ) → first_that test n chosen ≡ None → m < length chosen → test (get_or chosen m []) ≡ false
 none_passes test n [] m e lt = absurd (omega (arith, lt))

@@ -12,7 +12,8 @@ use std::alloc::Global;
 
 /// What becomes of each instance of a list.
 fn pick_all(alloc: Global, owners: &mut Owners, list: &[Instance]) -> Result<Vec<Pick>, Memory>
-    requires below { All (λ i. All (λ dev. dev < length owners.old.numbers.items) i.key.set) list.now }
+    requires below { All (λ i. All (λ dev. dev < length owners.old.numbers.items) i.key.set)
+        list.now }
     requires room { owners.old.next + length list.now < 2 ^ 32 }
     ensures picks { IfOk result (λ picks. (first : ℕ) (chosen : List (List ℕ))
         → Keeps first chosen owners.old.numbers.items owners.old.next
@@ -22,7 +23,8 @@ fn pick_all(alloc: Global, owners: &mut Owners, list: &[Instance]) -> Result<Vec
         → Keeps first (chosen_after_all first chosen (sets_in list.now))
         owners.new.numbers.items owners.new.next) }
     ensures next { OnOk result (owners.new.next ≤ owners.old.next + length list.now) }
-    ensures devices { OnOk result (length owners.new.numbers.items ≡ length owners.old.numbers.items) }
+    ensures devices { OnOk result
+        (length owners.new.numbers.items ≡ length owners.old.numbers.items) }
 {
     let mut picks = Vec::with_capacity(alloc, list.len())?;
     for instance in list {

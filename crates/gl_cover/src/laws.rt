@@ -8,7 +8,8 @@ ghost use Rattle.gl_match.specs.Picks.{picks_of};
 
 /// The picks that are computed are the choice without overlap, and there is no other.
 pub fn picks_are_the_choice()
-    ensures choice { (first : ℕ) (lists : List (List (List ℕ))) → IsChoice first lists (picks_of first lists) }
+    ensures choice { (first : ℕ) (lists : List (List (List ℕ)))
+        → IsChoice first lists (picks_of first lists) }
     ensures once { (first : ℕ) (lists : List (List (List ℕ))) (xs ys : List (List PickValue))
         → IsChoice first lists xs → IsChoice first lists ys → xs ≡ ys }
 {}

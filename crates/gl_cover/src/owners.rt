@@ -61,9 +61,11 @@ fn give(numbers: &mut [Option<u32>], set: &[DevId], number: u32)
 pub fn pick(owners: &mut Owners, set: &[DevId]) -> Pick
     requires below { All (λ dev. dev < length owners.old.numbers.items) set.now }
     requires room { owners.old.next + 1 < 2 ^ 32 }
-    ensures pick { (first : ℕ) (chosen : List (List ℕ)) → Keeps first chosen owners.old.numbers.items owners.old.next
+    ensures pick { (first : ℕ) (chosen : List (List ℕ))
+        → Keeps first chosen owners.old.numbers.items owners.old.next
         → result ≡ pick_after first chosen set.now }
-    ensures chosen { (first : ℕ) (chosen : List (List ℕ)) → Keeps first chosen owners.old.numbers.items owners.old.next
+    ensures chosen { (first : ℕ) (chosen : List (List ℕ))
+        → Keeps first chosen owners.old.numbers.items owners.old.next
         → Keeps first (chosen_after first chosen set.now) owners.new.numbers.items owners.new.next }
     ensures next { owners.new.next ≤ owners.old.next + 1 }
     ensures devices { length owners.new.numbers.items ≡ length owners.old.numbers.items }

@@ -1,5 +1,5 @@
 -- The first refusal of what is to be a circuit or a pattern. This project's own.
-use Rattle.std.specs.Prelude.{◌≡◌, ◌==◌, ◌||◌, not, ◌⊎◌, ℕ, ◌+◌, List, [], ◌∷◌, length, take, Bool, true, false, nat_lt, Option, None, Some, Result, MatchResult, slice_index_or, slice_get}
+use Rattle.std.specs.Prelude.{◌≡◌, ◌==◌, ◌||◌, not, ◌⊎◌, ℕ, ◌+◌, List, [], ◌∷◌, length, take, Bool, false, nat_lt, Option, None, Some, Result, MatchResult, slice_index_or, slice_get}
 use Rattle.std.specs.List.{list_any}
 use Rattle.std.specs.Option.{option_or}
 use Rattle.gl_fault.specs.Refusals.{when}

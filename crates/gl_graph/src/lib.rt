@@ -23,3 +23,4 @@ pub use fault::BuildFault;
 pub use gl_match::{Class, DevId, NetId, Role, Spot, TypeId, Vertex};
 pub use pattern::Pattern;
 pub use shape::Shape;
+pub use tables::Places;

@@ -49,8 +49,10 @@ pub fn nets_on_devices(
 /// Marks a number, and tells whether it stands in the table and was not marked before.
 pub fn mark_new(table: &mut Vec<bool>, number: usize) -> bool
     ensures fresh { result
-        ≡ (nat_lt number (length table.old.items) && not (slice_index_or table.old.items number false)) }
-    ensures marked { table.new.items ≡ (if result then slice_set table.old.items number true else table.old.items) }
+        ≡ (nat_lt number (length table.old.items)
+        && not (slice_index_or table.old.items number false)) }
+    ensures marked { table.new.items
+        ≡ (if result then slice_set table.old.items number true else table.old.items) }
 {
     if number >= table.len() || table[number] {
         return false;

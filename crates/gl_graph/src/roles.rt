@@ -51,7 +51,8 @@ fn add_net(
     requires seen { IsRoleTable (take net roles.now) (length seen.old.items) seen.old.items }
     ensures sound { let role = slice_index_or roles.now net Role.Inner in
         let is_loose = not (slice_index_or placed.now net false) in
-        result ≡ not (is_loose || is_bad_role (length seen.old.items) roles.now ports.now net role) }
+        let seen_rails = length seen.old.items in
+        result ≡ not (is_loose || is_bad_role seen_rails roles.now ports.now net role) }
     ensures seen { let count = length seen.old.items in
         OnTrue result (IsRoleTable (take (net + 1) roles.now) count seen.new.items) }
 {
@@ -98,7 +99,8 @@ fn add_port(seen: &mut Vec<bool>, ports: &[NetId], index: usize) -> bool
 /// Refuses the first port whose net is out of range or is that of an earlier port.
 fn check_ports(alloc: Global, nets: usize, ports: &[NetId]) -> Result<(), BuildFault>
     requires { length ports.now < 2 ^ 32 }
-    ensures answer { AnswersBy result (λ _. Unit {0}) (first_in (port_fault nets ports.now) 0 ports.now) }
+    ensures answer { AnswersBy result (λ _. Unit {0})
+        (first_in (port_fault nets ports.now) 0 ports.now) }
 {
     let mut seen = vec![in alloc; false; nets].map_err(|_| BuildFault::Memory)?;
     for index in 0..ports.len() {
@@ -136,7 +138,8 @@ pub fn check_pattern(
         AnswersBy result (λ _. Unit {0}) (pattern_fault shapes.now rails given) }
     ensures built { IfOk result (λ _. IsBuiltPattern (pattern_of devices.now roles.now ports.now)) }
     ensures fits { let given = pattern_of devices.now roles.now ports.now in
-        IfOk result (λ _. (c : Graph) → c.shapes ≡ shapes.now → length c.rails ≡ rails → FitsInto c given) }
+        IfOk result
+        (λ _. (c : Graph) → c.shapes ≡ shapes.now → length c.rails ≡ rails → FitsInto c given) }
 {
     check_devices(shapes, roles.len() as u32, devices)?;
     check_roles(alloc, rails, devices, roles, ports)?;

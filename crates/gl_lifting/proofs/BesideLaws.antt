@@ -3,6 +3,7 @@ use Rattle.std.proofs.Common.{◌≡◌, ◌<◌, ℕ, suc, List, [], ◌∷◌,
 use Rattle.std.specs.Prelude.{Contains, zip}
 use Rattle.std.specs.List.{AllByRecursion, AllZip}
 use Rattle.gl_match.proofs.Lists.{Once, in_head, in_tail, in_cons, in_none, in_map, from_map}
+pub use Rattle.gl_lists.proofs.Zips.{map_map as map_again}
 
 -- what stands in the one list has something beside it in the other
 partner : {X Y : Type 0} (R : X → Y → Type 0) (xs : List X) (ys : List Y) → AllZip R xs ys → (x : X) → Contains xs x → (y : Y) × Contains ys y × R x y
@@ -44,7 +45,3 @@ zip_get {X} {Y} (x ∷ xs) (y ∷ ys) d e z at = elim (in_cons (x, y) (zip xs ys
 pub map_both : {X Y : Type 0} (f g : X → Y) (xs : List X) → ((x : X) → Contains xs x → f x ≡ g x) → map f xs ≡ map g xs
 map_both f g [] h = refl
 map_both {X} {Y} f g (x ∷ xs) h = ap₂ (λ (y : Y) (ys : List Y). y ∷ ys) (h x (in_head x xs)) (map_both f g xs (λ z at. h z (in_tail x xs z at)))
-
-pub map_again : {X Y Z : Type 0} (f : Y → Z) (g : X → Y) (xs : List X) → map f (map g xs) ≡ map (λ x. f (g x)) xs
-map_again f g [] = refl
-map_again {X} {Y} {Z} f g (x ∷ xs) = ap (λ (zs : List Z). f (g x) ∷ zs) (map_again f g xs)

@@ -7,15 +7,14 @@ use Rattle.std.proofs.lemmas.List.Elements.{Contains-append_right}
 use Rattle.gl_match.proofs.Lists.{Once, in_cons, in_none, in_map, from_map}
 use Rattle.gl_text.specs.LogicalLines.{same_text}
 use Rattle.gl_text.specs.Cards.{first_byte}
-use Rattle.gl_text.specs.Decks.{Body, dev_at, call_at, Sub, find_sub}
+use Rattle.gl_text.specs.Decks.{Body, dev_at, call_at, Sub, find_sub, body_name}
 use Rattle.gl_text.specs.Flattening.{Net, FlatDevice, Bearer, net, top_net, net_name, device_name, bearers, top_place, flat_devices, first_clash}
 use Rattle.gl_printed.specs.ReadCards.{IsFine}
-use Rattle.gl_printed.specs.ReadDecks.{body_card, body_name, IsReadSub, IsReadDeck}
+use Rattle.gl_printed.specs.ReadDecks.{body_card, IsReadSub, IsReadDeck}
 use Rattle.gl_printed.proofs.Each.{each_to}
 use Rattle.gl_printed.proofs.FlatClashes.{all_differ_flat}
 use Rattle.gl_base.specs.BaseCircuit.{Source}
 use Rattle.gl_base.specs.Libraries.{Library, clash_of_cell}
-use Rattle.gl_base.specs.RoundReports.{card_name}
 use Rattle.gl_base.proofs.TextLaws.{exact, itself, once_from}
 use Rattle.gl_lifting.proofs.TurnedNameLaws.{type_places}
 use Rattle.gl_lifting.proofs.FlatCardLaws.{in_each}
@@ -86,12 +85,6 @@ module _ (library : Library) (library_read : IsReadDeck library.deck) (clear : I
     one (dev_at line d) f = type_places s d f.is_read.kind
     one (call_at line c) f = tt
 
--- names of cards, by either word
-names_same : (bs : List Body) → map body_name bs ≡ map card_name bs
-names_same [] = refl
-names_same (dev_at line d ∷ bs) = ap (λ ns. d.name ∷ ns) (names_same bs)
-names_same (call_at line c ∷ bs) = ap (λ ns. c.name ∷ ns) (names_same bs)
-
 -- the names of a cell's cards differ
-pub cards_named : (library : Library) → IsReadDeck library.deck → (t : Sub) → Contains library.deck.subs t → Once (map card_name t.cards)
-cards_named library read t inside = subst Once (names_same t.cards) (once_from (map body_name t.cards) (in_each (IsReadSub library.deck.subs) library.deck.subs t read.subs inside).names_differ)
+pub cards_named : (library : Library) → IsReadDeck library.deck → (t : Sub) → Contains library.deck.subs t → Once (map body_name t.cards)
+cards_named library read t inside = once_from (map body_name t.cards) (in_each (IsReadSub library.deck.subs) library.deck.subs t read.subs inside).names_differ

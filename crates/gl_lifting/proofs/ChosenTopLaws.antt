@@ -10,9 +10,10 @@ use Rattle.gl_text.specs.Flattening.{CARDS, Bearer, bearers, bearer_name, count,
 use Rattle.gl_printed.proofs.Each.{each_right}
 use Rattle.gl_printed.proofs.FlatAlike.{pick, pick_is}
 use Rattle.gl_base.proofs.TextLaws.{exact, itself}
-use Rattle.gl_lifting.specs.LiftedDecks.{top_sub, top_cards}
+use Rattle.gl_printed.specs.FlatDecks.{subs_around, top_without}
 use Rattle.gl_lifting.specs.OutLimits.{OutLimit, of_name, of_cards, of_lifted_text, of_lifted_flat, limits, passed_if, first_passed, out_limit, written_names, lifted_flat, expanded_cards}
 use Rattle.gl_lifting.proofs.LimitLaws.{each_unmap}
+use Rattle.std.proofs.lemmas.Option.{same_Some as some_is}
 
 -- ---- limits
 
@@ -69,9 +70,6 @@ head_is a b cs ds e = ap (λ (z : Option Head × List Body). z.0) (pair_is (a, c
 find_true : (p : Sub → Bool) (xs : List Sub) (x : Sub) → find p xs ≡ Some x → p x ≡ true
 find_true p [] x e = absurd cc
 find_true p (y ∷ ys) x e = go (p y) refl e (find_true p ys x) where
-  some_is : (a b : Sub) → Some a ≡ Some b → a ≡ b
-  some_is a b e = cc
-
   go : (b : Bool) → p y ≡ b → cond b (Some y) (find p ys) ≡ Some x → (find p ys ≡ Some x → p x ≡ true) → p x ≡ true
   go true on e ih = ap p (sym (some_is y x e)) ∙ on
   go false off e ih = ih e
@@ -94,7 +92,7 @@ find_behind [] ys name h = refl
 find_behind (x ∷ xs) ys name h = rw h.0 (find_behind xs ys name h.1)
 
 -- the cards of the top are chosen
-pub chosen_top : (d : Deck) (t : Option Head) (vs : List Sub) (bs : List Body) → d.subs ≡ vs ++ top_sub t bs → d.top ≡ top_cards t bs → ((head : Head) → t ≡ Some head → AllByRecursion (λ (x : Sub). same_text x.head.name head.name ≡ false) vs)
+pub chosen_top : (d : Deck) (t : Option Head) (vs : List Sub) (bs : List Body) → d.subs ≡ vs ++ subs_around t bs → d.top ≡ top_without t bs → ((head : Head) → t ≡ Some head → AllByRecursion (λ (x : Sub). same_text x.head.name head.name ≡ false) vs)
     → chosen d (option_map (λ (h : Head). h.name) t) ≡ Ok (t, bs)
 unfolding pick
 chosen_top d None vs bs subs top others = ap (okay None) top
@@ -110,6 +108,6 @@ last_is d head (y ∷ []) x = refl
 last_is d head (y ∷ z ∷ ys) x = last_is d head (z ∷ ys) x
 
 -- and they are expanded
-pub expanded_top : (d : Deck) (t : Option Head) (vs : List Sub) (bs : List Body) → d.subs ≡ vs ++ top_sub t bs → d.top ≡ top_cards t bs → expanded_cards t d ≡ bs
+pub expanded_top : (d : Deck) (t : Option Head) (vs : List Sub) (bs : List Body) → d.subs ≡ vs ++ subs_around t bs → d.top ≡ top_without t bs → expanded_cards t d ≡ bs
 expanded_top d None vs bs subs top = top
 expanded_top d (Some head) vs bs subs top = ap (λ (xs : List Sub). expanded_cards (Some head) (record d { subs = xs })) subs ∙ last_is d head vs (record { line = 0; head = head; cards = bs })

@@ -6,7 +6,7 @@ use Rattle.std.specs.List.{AllByRecursion}
 use Rattle.std.proofs.lemmas.Bool.{cases_Bool, cases_lt, eqb-true}
 use Rattle.std.proofs.lemmas.List.{length-map}
 use Rattle.std.proofs.lemmas.List.Elements.{Contains-get_or}
-use Rattle.std.proofs.lemmas.Option.{slice_get_within, get_or_from_slice_get}
+use Rattle.std.proofs.lemmas.Option.{slice_get_within, get_or_from_slice_get, same_Some as some_is}
 use Rattle.gl_match.proofs.Lists.{Once, in_head, in_tail, in_cons, in_map, from_map, in_flat_map, from_flat_map}
 use Rattle.gl_match.specs.Graph.{device_at}
 use Rattle.gl_text.specs.LogicalLines.{same_text}
@@ -28,6 +28,7 @@ use Rattle.gl_lifting.proofs.ClashLaws.{Agree}
 use Rattle.gl_lifting.proofs.InnerRowLaws.{image_beside}
 use Rattle.gl_lifting.proofs.NetTableLaws.{net_rows, row_from}
 use Rattle.gl_lifting.proofs.WalkLaws.{IsGood}
+use Rattle.gl_lists.proofs.Bools.{not_both}
 
 -- places of one item are one, where each stands once
 once_at : (xs : List (List ℕ)) (i j : ℕ) → Once xs → i < length xs → j < length xs → get_or xs i [] ≡ get_or xs j [] → i ≡ j
@@ -47,9 +48,7 @@ all_there xs ys ox oy le inside y at = elim (cases_Bool (is_in y xs)) [
       let none : Contains xs y → ⊥ = λ k. not_both (is_in y xs) (onces.found same_text exact itself xs y k) off in
       let more = onces.no_more (y ∷ xs) ys (none, ox) oy (λ z k. elim (in_cons y xs z k) [ inl same ↦ subst (λ w. Contains ys w) same at | inr later ↦ inside z later ]) in
       absurd (omega (arith, more, le))
-] where
-  not_both : (b : Bool) → b ≡ true → b ≡ false → ⊥
-  not_both b t f = cc
+]
 
 module _ (run : Run) (cards : List Card) (devices : List (List ℕ)) (new : ℕ → Net) (ds : List FlatDevice) (good : AllByRecursion (IsGood run cards devices new) ds) (once : Once (map device_name ds)) (many : length ds ≡ length cards) (long : length devices ≡ length cards) where
   -- the names of the devices are new names
@@ -88,9 +87,7 @@ under_there : (k : ℕ) (rows : List (ℕ × Net)) (n : Net) → under rows k �
 under_there k [] n e = absurd cc
 under_there k (row ∷ rows) n e = by (eqb row.0 k) refl e (under_there k rows n) where
   by : (b : Bool) → eqb row.0 k ≡ b → option_map (λ (r : ℕ × Net). r.1) (cond b (Some row) (find (λ (r : ℕ × Net). eqb r.0 k) rows)) ≡ Some n → (under rows k ≡ Some n → (r : ℕ × Net) × Contains rows r × (r.0 ≡ k) × (r.1 ≡ n)) → (r : ℕ × Net) × Contains (row ∷ rows) r × (r.0 ≡ k) × (r.1 ≡ n)
-  by true on f later = (row, in_head row rows, eqb-true row.0 k on, some_is row.1 n f) where
-    some_is : (a b : Net) → Some a ≡ Some b → a ≡ b
-    some_is a b e = cc
+  by true on f later = (row, in_head row rows, eqb-true row.0 k on, some_is row.1 n f)
   by false off f later = let r = later f in (r.0, in_tail row rows r.0 r.1, r.2, r.3)
 
 module _ (run : Run) (h : History) (stem : List ℕ) (some_way : (l : Located) → Contains (all_located stem h) l → 0 < length l.way) (one_way : (l m : Located) → Contains (all_located stem h) l → Contains (all_located stem h) m → l.way ≡ m.way → l.composite ≡ m.composite) where

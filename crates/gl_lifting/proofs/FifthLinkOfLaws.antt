@@ -9,12 +9,11 @@ use Rattle.gl_match.proofs.AtLaws.{get_any}
 use Rattle.gl_match.specs.Graph.{Device, device_at}
 use Rattle.gl_text.specs.LogicalLines.{same_text}
 use Rattle.gl_text.specs.Cards.{Device as Card, first_byte}
-use Rattle.gl_text.specs.Decks.{Deck, has_twice}
+use Rattle.gl_text.specs.Decks.{Deck, has_twice, body_name}
 use Rattle.gl_text.specs.Flattening.{DEPTH, Flat, FlatDevice, Net, net, top_net, top_place, top_ports, bearers, net_name, device_name, flat_card, flat_devices, first_clash}
 use Rattle.gl_base.specs.BaseCircuit.{nets_of, net_number, device_of}
 use Rattle.gl_base.specs.Libraries.{Library}
 use Rattle.gl_base.specs.Reports.{name_at}
-use Rattle.gl_base.specs.RoundReports.{card_name}
 use Rattle.gl_base.specs.Rounds.{cards_of}
 use Rattle.gl_base.specs.Rails.{run_rails}
 use Rattle.gl_base.proofs.OnceLaws as onces
@@ -135,7 +134,7 @@ module _ (deck_bytes library_bytes : List ℕ) (o : Options) (flat : Flat) (libr
   -- so new names of nets differ
   nets_differ : has_twice (new_names m.nets) ≡ false
   nets_differ =
-      let cells_once : (c : Composite) → Contains h.last.composites c → Once (map card_name c.cell.cards) = λ c at. cards_named library (facts.library_read deck_bytes library_bytes o flat library h stem is suited) c.cell (facts.cell_in deck_bytes library_bytes o flat library h stem is suited c at) in
+      let cells_once : (c : Composite) → Contains h.last.composites c → Once (map body_name c.cell.cards) = λ c at. cards_named library (facts.library_read deck_bytes library_bytes o flat library h stem is suited) c.cell (facts.cell_in deck_bytes library_bytes o flat library h stem is suited c at) in
       let lows = facts.low deck_bytes library_bytes o flat library h stem is suited in
       let one = facts.one_number deck_bytes library_bytes o flat library h stem is suited in
       let own = one_of_all run h stem is.lawful in

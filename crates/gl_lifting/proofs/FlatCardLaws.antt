@@ -2,13 +2,13 @@
 use Rattle.std.proofs.Common.{◌≡◌, ℕ, zero, suc, List, [], ◌∷◌, map, get_or, flat_map, Option, None, Some, refl, sym, ap, ◌∙◌, subst, arith, inl, inr}
 use Rattle.std.specs.Prelude.{Contains, slice_get, option_to_list}
 use Rattle.std.specs.List.{AllByRecursion, AllZip}
-use Rattle.std.proofs.lemmas.Option.{slice_get_within, get_or_from_slice_get, slice_get-get_or}
+use Rattle.std.proofs.lemmas.Option.{slice_get_within, get_or_from_slice_get, slice_get-get_or, same_Some as some_is}
 use Rattle.gl_match.proofs.Lists.{Once, in_cons, in_none, in_map, from_flat_map}
 use Rattle.gl_text.specs.Cards.{Device as Card, Head, dev}
-use Rattle.gl_text.specs.Decks.{Body, Sub}
+use Rattle.gl_text.specs.Decks.{Body, Sub, body_name}
 use Rattle.gl_text.specs.Flattening.{Flat, FlatDevice, flat_card}
 use Rattle.gl_printed.specs.ReadCards.{IsFine}
-use Rattle.gl_printed.specs.ReadDecks.{body_card, body_name, AllDiffer, IsReadSub, IsReadDeck}
+use Rattle.gl_printed.specs.ReadDecks.{body_card, AllDiffer, IsReadSub, IsReadDeck}
 use Rattle.gl_printed.specs.FlatDecks.{flat_cards, deck_of, subs_around, top_without}
 use Rattle.gl_printed.proofs.Each.{each_left}
 use Rattle.gl_base.specs.Rounds.{cards_of}
@@ -16,12 +16,9 @@ use Rattle.gl_base.specs.BaseCircuit.{nets_of}
 use Rattle.gl_base.proofs.TextLaws.{names_were, once_from}
 use Rattle.gl_lifting.proofs.TurnedNameLaws.{each_get, each_in}
 use Rattle.gl_text.specs.WayBack.{IsName}
+pub use Rattle.gl_lists.proofs.Each.{each_in as in_each}
 
 -- ---- lists
-
--- what holds of each holds of what stands in the list
-pub in_each : {X : Type 0} (P : X → Type 0) (xs : List X) (x : X) → AllByRecursion P xs → Contains xs x → P x
-in_each P xs x h at = subst P at.2 (each_get P xs at.0 x h at.1)
 
 -- and of what stands at a place
 pub at_each : {X : Type 0} (P : X → Type 0) (xs : List X) (i : ℕ) (x : X) → AllByRecursion P xs → slice_get xs i ≡ Some x → P x
@@ -52,9 +49,7 @@ once_by_place (x ∷ xs) f = (
 -- what stands at a place behind a map comes from what stood there
 pub from_mapped : {X Y : Type 0} (f : X → Y) (xs : List X) (i : ℕ) (y : Y) → slice_get (map f xs) i ≡ Some y → (x : X) × (slice_get xs i ≡ Some x) × (f x ≡ y)
 from_mapped f [] i y e = absurd (let lt = slice_get_within [] i y e in omega (arith, lt))
-from_mapped f (x ∷ xs) zero y e = (x, refl, some_is (f x) y e) where
-  some_is : {X : Type 0} (a b : X) → Some a ≡ Some b → a ≡ b
-  some_is a b e = cc
+from_mapped f (x ∷ xs) zero y e = (x, refl, some_is (f x) y e)
 from_mapped f (x ∷ xs) (suc i) y e = from_mapped f xs i y e
 
 -- what holds of pairs and what holds of the first of each

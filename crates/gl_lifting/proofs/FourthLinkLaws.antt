@@ -23,7 +23,8 @@ use Rattle.gl_lifting.specs.Runs.{run_of}
 use Rattle.gl_lifting.specs.Replacement.{Slot, Composite}
 use Rattle.gl_lifting.specs.Histories.{History}
 use Rattle.gl_lifting.specs.Variants.{Variants, card_at, variants_of, variant_names}
-use Rattle.gl_lifting.specs.LiftedDecks.{slot_card, top_sub, top_name, variant_sub, lifted_deck}
+use Rattle.gl_printed.specs.FlatDecks.{subs_around}
+use Rattle.gl_lifting.specs.LiftedDecks.{slot_card, top_name, variant_sub, lifted_deck}
 use Rattle.gl_lifting.specs.OutLimits.{limits, out_limit, expanded_cards, lifted_flat}
 use Rattle.gl_lifting.specs.Lifted.{Options}
 use Rattle.gl_lifting.specs.Chain.{IsLawfulOf, LiftedIsFlat}
@@ -42,13 +43,11 @@ use Rattle.gl_lifting.proofs.ChosenTopLaws.{limits_kept, asked_is, chosen_top, e
 use Rattle.gl_lifting.proofs.LibraryLaws.{IsClear}
 use Rattle.gl_lifting.proofs.CellFactLaws.{names_once, nets_agree, begin}
 use Rattle.gl_lifting.proofs.LiftedFactLaws as facts
+use Rattle.gl_lists.proofs.Bools.{not_both}
 
 -- the rails of the library are the run's
 fewer_rails : (deck library : List (List ℕ)) (name : List ℕ) → is_rail (run_rails deck library) name ≡ false → is_rail library name ≡ false
 fewer_rails deck library name off = false_from_ne_true (is_rail library name) (λ on. not_both (is_rail (run_rails deck library) name) (by (same_text name (codes "0")) refl on) off) where
-  not_both : (b : Bool) → b ≡ true → b ≡ false → ⊥
-  not_both b t f = cc
-
   by : (b : Bool) → same_text name (codes "0") ≡ b → is_rail library name ≡ true → is_rail (run_rails deck library) name ≡ true
   by true zero on = ap (λ t. t || is_in name (run_rails deck library)) zero
   by false other on =
@@ -92,7 +91,7 @@ module _ (deck_bytes library_bytes : List ℕ) (o : Options) (flat : Flat) (libr
   vsubs = map (variant_sub s names) (zip names vs.different)
 
   abbrev subs : List Sub
-  subs = vsubs ++ top_sub flat.top bodies
+  subs = vsubs ++ subs_around flat.top bodies
 
   abbrev deck : Deck
   deck = lifted_deck stem flat (run_of flat library o.keep).source h

@@ -20,6 +20,7 @@ use Rattle.gl_lifting.proofs.OnceLaws.{one_made}
 use Rattle.gl_lifting.proofs.MadeLaws.{made_cells, all_cells}
 use Rattle.gl_lifting.proofs.OrderLaws.{parts_are_earlier}
 use Rattle.gl_lifting.proofs.StandLaws.{IsTold, HasSome, searched_some, stands_weighed}
+use Rattle.gl_lists.proofs.Each.{each_true as all_true}
 
 -- ---- numbers
 
@@ -57,10 +58,6 @@ below_card rails subs inner g p (call_at line c) = by (find_sub subs c.sub) refl
   by : (o : Option Sub) → find_sub subs c.sub ≡ o → AllByRecursion (λ (d : FlatDevice). (rest : List (List ℕ)) × (d.path ≡ p.path ++ rest)) (devices_of rails subs inner p (call_at line c))
   by None e = rw e tt
   by (Some t) e = rw e (each_to (λ (d : FlatDevice). (rest : List (List ℕ)) × (d.path ≡ (p.path ++ c.name ∷ []) ++ rest)) (λ (d : FlatDevice). (rest : List (List ℕ)) × (d.path ≡ p.path ++ rest)) (λ d r. (c.name ∷ r.0, r.1 ∙ append_assoc p.path (c.name ∷ []) r.0)) (inner (inside rails p c t) t.cards) (g (inside rails p c t) t.cards))
-
-all_true : {X : Type 0} (P : X → Type 0) → ((x : X) → P x) → (xs : List X) → AllByRecursion P xs
-all_true P f [] = tt
-all_true P f (x ∷ xs) = (f x, all_true P f xs)
 
 pub ways_below : (rails : List (List ℕ)) (subs : List Sub) (n : ℕ) (p : Place) (bs : List Body) → AllByRecursion (λ (d : FlatDevice). (rest : List (List ℕ)) × (d.path ≡ p.path ++ rest)) (flat_devices rails subs n p bs)
 ways_below rails subs zero p bs = each_flat _ (devices_of rails subs (λ q c. []) p) bs (all_true _ (below_card rails subs (λ q c. []) (λ q c. tt) p) bs)

@@ -27,7 +27,6 @@ mod OrderLaws
 mod SoughtLaws
 mod PairedLaws
 mod FlatNameLaws
-mod FifthLinkLaws
 mod MeetLaws
 mod MatchedLaws
 mod LineBackLaws

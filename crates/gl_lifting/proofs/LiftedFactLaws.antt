@@ -4,7 +4,7 @@ use Rattle.std.specs.Prelude.{Contains, slice_get, zip, option_map}
 use Rattle.std.specs.List.{AllByRecursion, AllZip}
 use Rattle.std.proofs.lemmas.Bool.{false_from_ne_true}
 use Rattle.std.proofs.lemmas.List.{length-map}
-use Rattle.std.proofs.lemmas.Option.{slice_get_within, slice_get-get_or, get_or_from_slice_get}
+use Rattle.std.proofs.lemmas.Option.{slice_get_within, slice_get-get_or, get_or_from_slice_get, same_Some as some_is}
 use Rattle.gl_match.proofs.Lists.{Once, once_append, in_cons, in_none}
 use Rattle.gl_text.specs.LogicalLines.{same_text}
 use Rattle.gl_text.specs.Cards.{Device as Card, Head}
@@ -21,7 +21,8 @@ use Rattle.gl_lifting.specs.Runs.{Run, run_of}
 use Rattle.gl_lifting.specs.Replacement.{Slot, Composite}
 use Rattle.gl_lifting.specs.Histories.{History}
 use Rattle.gl_lifting.specs.Variants.{Variant, Variants, variant_of, variant_by, variants_of, variant_names}
-use Rattle.gl_lifting.specs.LiftedDecks.{slot_card, top_sub, top_name, variant_sub}
+use Rattle.gl_printed.specs.FlatDecks.{subs_around}
+use Rattle.gl_lifting.specs.LiftedDecks.{slot_card, top_name, variant_sub}
 use Rattle.gl_lifting.specs.Lifted.{Options}
 use Rattle.gl_lifting.specs.Chain.{IsLawfulOf}
 use Rattle.gl_lifting.specs.Suited.{SuitsOrigin, HasSuited}
@@ -66,7 +67,7 @@ module _ (deck_bytes library_bytes : List ℕ) (o : Options) (flat : Flat) (libr
   bodies = map (slot_card stem (cards_of flat) (variant_names (top_name flat) (variants_of (cards_of flat) h.last.composites).different) (variants_of (cards_of flat) h.last.composites).numbers) h.last.slots
 
   abbrev subs : List Sub
-  subs = map (variant_sub s names) (zip names vs.different) ++ top_sub flat.top bodies
+  subs = map (variant_sub s names) (zip names vs.different) ++ subs_around flat.top bodies
 
   pub library_read : IsReadDeck library.deck
   library_read = (read_libraries library_bytes library is.library_is).0
@@ -105,9 +106,6 @@ module _ (deck_bytes library_bytes : List ℕ) (o : Options) (flat : Flat) (libr
   one_number c d ac ad same =
       let place : ac.0 ≡ ad.0 = omega (arith, same, numbered ac.0 c (at_place c ac), numbered ad.0 d (at_place d ad)) in
       some_is c d (sym (at_place c ac) ∙ ap (slice_get cs) place ∙ at_place d ad)
-    where
-      some_is : (a b : Composite) → Some a ≡ Some b → a ≡ b
-      some_is a b e = cc
 
   -- there are not too many
   pub low : (c : Composite) → Contains cs c → c.number < 2 ^ 64
@@ -123,7 +121,7 @@ module _ (deck_bytes library_bytes : List ℕ) (o : Options) (flat : Flat) (libr
       let next : get_or vs.numbers i 0 ≡ variant_of vs.numbers (i + 1) = ap (λ k. get_or (0 ∷ vs.numbers) k 0) (let e : suc i ≡ i + 1 = omega arith in e) in
       let link = variants_found cards run h library_read.subs_differ is.lawful i c f.variant at.1 at.2 in
       let v : f.variant ≡ variant_by cards vs.numbers c = sym (get_or_from_slice_get vs.different (get_or vs.numbers i 0) f.variant f.variant f.stands) ∙ ap (λ k. get_or vs.different k f.variant) next ∙ link in
-      let g = variant_found s cards names vs.different many once (top_sub flat.top bodies) (get_or vs.numbers i 0) f.variant f.stands in
+      let g = variant_found s cards names vs.different many once (subs_around flat.top bodies) (get_or vs.numbers i 0) f.variant f.stands in
       ap (λ k. find_sub subs (name_at names k)) n ∙ g ∙ ap (λ k. Some (variant_sub s names (name_at names k, f.variant))) (sym n)
       ∙ ap (λ (w : Variant). Some (variant_sub s names (name_at names (variant_of vs.numbers c.number), w))) v ∙ ap Some (sub_is s cards names vs.numbers c)
 
@@ -161,7 +159,7 @@ module _ (deck_bytes library_bytes : List ℕ) (o : Options) (flat : Flat) (libr
   pub top_absent : (head : Head) → flat.top ≡ Some head → Contains names head.name → ⊥
   top_absent head e = subst (λ t. Contains (variant_names t vs.different) head.name → ⊥) (sym (ap (λ t. option_map (λ (x : Head). x.name) t) e)) (apart_are.not_top head.name vs.different few)
 
-  heads_differ : (t : Option Head) → flat.top ≡ t → Once (names ++ map (λ (x : Sub). x.head.name) (top_sub t bodies))
+  heads_differ : (t : Option Head) → flat.top ≡ t → Once (names ++ map (λ (x : Sub). x.head.name) (subs_around t bodies))
   heads_differ None e = once_append names [] once tt (λ x a b. in_none x b)
   heads_differ (Some head) e = once_append names (head.name ∷ []) once ((λ x. in_none head.name x), tt) (λ x a b. elim (in_cons head.name [] x b) [
     | inl same ↦ top_absent head e (subst (λ y. Contains names y) (sym same) a)
@@ -170,7 +168,7 @@ module _ (deck_bytes library_bytes : List ℕ) (o : Options) (flat : Flat) (libr
 
   -- no two subcircuits have one name
   pub subs_once : Once (map (λ (t : Sub). t.head.name) subs)
-  subs_once = subst Once (sym (heads_are s names names vs.different (top_sub flat.top bodies) many)) (heads_differ flat.top refl)
+  subs_once = subst Once (sym (heads_are s names names vs.different (subs_around flat.top bodies) many)) (heads_differ flat.top refl)
 
   -- no variant has the top's name
   pub variants_other : (head : Head) → flat.top ≡ Some head → AllByRecursion (λ (x : Sub). same_text x.head.name head.name ≡ false) (map (variant_sub s names) (zip names vs.different))

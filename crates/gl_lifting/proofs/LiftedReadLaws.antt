@@ -6,12 +6,12 @@ use Rattle.std.proofs.lemmas.Option.{slice_get-get_or}
 use Rattle.gl_match.proofs.Lists.{Once, once_append, in_cons, in_none}
 use Rattle.gl_text.specs.LogicalLines.{NAME}
 use Rattle.gl_text.specs.Cards.{Device as Card, Head, dev}
-use Rattle.gl_text.specs.Decks.{Body, Sub, callees}
+use Rattle.gl_text.specs.Decks.{Body, Sub, callees, body_name}
 use Rattle.gl_text.specs.Levels.{Down}
 use Rattle.gl_text.specs.Flattening.{Flat}
 use Rattle.gl_printed.specs.ReadCards.{IsFine}
-use Rattle.gl_printed.specs.ReadDecks.{body_card, body_name, FindsSub, IsReadSub, IsReadDeck, AllDiffer}
-use Rattle.gl_printed.specs.FlatDecks.{flat_cards, deck_of, subs_around}
+use Rattle.gl_printed.specs.ReadDecks.{body_card, FindsSub, IsReadSub, IsReadDeck, AllDiffer}
+use Rattle.gl_printed.specs.FlatDecks.{flat_cards, deck_of, subs_around, top_without}
 use Rattle.gl_printed.proofs.Each.{each_append, each_to}
 use Rattle.gl_base.specs.BaseCircuit.{Source}
 use Rattle.gl_base.specs.Libraries.{Library}
@@ -22,7 +22,7 @@ use Rattle.gl_base.proofs.TextLaws.{never_twice}
 use Rattle.gl_lifting.specs.Replacement.{Slot, Composite}
 use Rattle.gl_lifting.specs.Histories.{History}
 use Rattle.gl_lifting.specs.Variants.{Variants, variants_of, variant_names}
-use Rattle.gl_lifting.specs.LiftedDecks.{slot_card, top_sub, top_cards, top_name, variant_sub, lifted_deck}
+use Rattle.gl_lifting.specs.LiftedDecks.{slot_card, top_name, variant_sub, lifted_deck}
 use Rattle.gl_lifting.specs.Suited.{SuitsOrigin, HasSuited}
 use Rattle.gl_lifting.proofs.NamesApartLaws as apart_are
 use Rattle.gl_lifting.proofs.GoodVariantLaws.{Whole}
@@ -57,10 +57,10 @@ module _ (s : Source) (flat : Flat) (stem : List ℕ) (library : Library) (h : H
   slots = map (slot_card stem (cards_of flat) (variant_names (top_name flat) (variants_of (cards_of flat) h.last.composites).different) (variants_of (cards_of flat) h.last.composites).numbers) h.last.slots
 
   abbrev more : List Sub
-  more = top_sub flat.top slots
+  more = subs_around flat.top slots
 
   abbrev subs : List Sub
-  subs = map (variant_sub s names) (zip names vs.different) ++ top_sub flat.top slots
+  subs = map (variant_sub s names) (zip names vs.different) ++ subs_around flat.top slots
 
   -- ---- what is known of the variants
 
@@ -112,7 +112,7 @@ module _ (s : Source) (flat : Flat) (stem : List ℕ) (library : Library) (h : H
   top_absent head e = subst (λ t. Contains (variant_names t vs.different) head.name → ⊥) (sym (ap (λ t. option_map (λ (x : Head). x.name) t) e)) (apart_are.not_top head.name vs.different low)
 
   -- the top's calls go down
-  down_top : (t : Option Head) → flat.top ≡ t → AllByRecursion (λ (x : Sub). AllByRecursion (λ n. rank names n < rank names x.head.name) (callees x.cards)) (top_sub t slots)
+  down_top : (t : Option Head) → flat.top ≡ t → AllByRecursion (λ (x : Sub). AllByRecursion (λ n. rank names n < rank names x.head.name) (callees x.cards)) (subs_around t slots)
   down_top None e = tt
   down_top (Some head) e = (subst (λ m. AllByRecursion (λ n. rank names n < m) (callees slots)) (sym (rank_absent names head.name (top_absent head e))) calls_low, tt)
 
@@ -123,7 +123,7 @@ module _ (s : Source) (flat : Flat) (stem : List ℕ) (library : Library) (h : H
       (down_top flat.top refl)
 
   -- the top is a subcircuit as it is read
-  read_top : (t : Option Head) → flat.top ≡ t → AllByRecursion (IsReadSub subs) (top_sub t slots)
+  read_top : (t : Option Head) → flat.top ≡ t → AllByRecursion (IsReadSub subs) (subs_around t slots)
   read_top None e = tt
   read_top (Some head) e =
       let r = (subst (λ t. AllByRecursion (IsReadSub (deck_of flat).subs) (subs_around t (flat_cards flat.devices))) e flat_read.subs).0 in (
@@ -139,7 +139,7 @@ module _ (s : Source) (flat : Flat) (stem : List ℕ) (library : Library) (h : H
       )
 
   -- the names of subcircuits differ
-  heads_differ : (t : Option Head) → flat.top ≡ t → Once (names ++ map (λ (x : Sub). x.head.name) (top_sub t slots))
+  heads_differ : (t : Option Head) → flat.top ≡ t → Once (names ++ map (λ (x : Sub). x.head.name) (subs_around t slots))
   heads_differ None e = once_append names [] once tt (λ x a b. in_none x b)
   heads_differ (Some head) e = once_append names (head.name ∷ []) once ((λ x. in_none head.name x), tt) (λ x a b. elim (in_cons head.name [] x b) [
     | inl same ↦ top_absent head e (subst (λ y. Contains names y) (sym same) a)
@@ -147,12 +147,12 @@ module _ (s : Source) (flat : Flat) (stem : List ℕ) (library : Library) (h : H
   ])
 
   -- what holds of the last circuit's cards holds of those at the top
-  top_each : (P : Body → Type 0) (t : Option Head) → AllByRecursion P slots → AllByRecursion P (top_cards t slots)
+  top_each : (P : Body → Type 0) (t : Option Head) → AllByRecursion P slots → AllByRecursion P (top_without t slots)
   top_each P None g = g
   top_each P (Some head) g = tt
 
   -- their names differ
-  top_differs : (t : Option Head) → AllDiffer (map body_name (top_cards t slots))
+  top_differs : (t : Option Head) → AllDiffer (map body_name (top_without t slots))
   top_differs None = slots_differ
   top_differs (Some head) = refl
 

@@ -21,6 +21,8 @@ use Rattle.gl_lifting.specs.OutLimits.{OutLimit, of_name, limits, passed_if, fir
 use Rattle.gl_lifting.proofs.VariantNameLaws.{behind_is}
 use Rattle.gl_lifting.proofs.FineLiftedLaws.{variant_part}
 use Rattle.gl_text.specs.WayBack.{IsName}
+pub use Rattle.gl_lists.proofs.Each.{each_unmap}
+use Rattle.std.proofs.lemmas.Option.{same_Some as some_is}
 
 -- ---- limits
 
@@ -33,11 +35,6 @@ none_passed true l rest e = absurd cc
 none_any : {X : Type 0} (test : X → Bool) (xs : List X) → list_any test xs ≡ false → AllByRecursion (λ x. test x ≡ false) xs
 none_any test [] e = tt
 none_any test (x ∷ xs) e = let p = or_parts (test x) (list_any test xs) e in (p.0, none_any test xs p.1)
-
--- what holds behind a map, before it
-pub each_unmap : {X Y : Type 0} (P : Y → Type 0) (f : X → Y) (xs : List X) → AllByRecursion P (map f xs) → AllByRecursion (λ x. P (f x)) xs
-each_unmap P f [] h = tt
-each_unmap P f (x ∷ xs) h = (h.0, each_unmap P f xs h.1)
 
 -- no name of a subcircuit is too long, where no limit is passed
 pub names_written : (top : Option Head) (deck : Deck) (map_bytes report : List ℕ) → out_limit limits top deck map_bytes report ≡ None → AllByRecursion (λ (t : Sub). length t.head.name ≤ NAME) deck.subs
@@ -83,9 +80,6 @@ each_by_place P (x ∷ xs) f = (f 0 x refl, each_by_place P xs (λ i y e. f (suc
 found : (P : Sub → Type 0) (p : Sub → Bool) (xs : List Sub) (x : Sub) → AllByRecursion P xs → find p xs ≡ Some x → (p x ≡ true) × P x
 found P p [] x h e = absurd cc
 found P p (y ∷ ys) x h e = go (p y) refl e (found P p ys x h.1) where
-  some_is : (a b : Sub) → Some a ≡ Some b → a ≡ b
-  some_is a b e = cc
-
   go : (b : Bool) → p y ≡ b → cond b (Some y) (find p ys) ≡ Some x → (find p ys ≡ Some x → (p x ≡ true) × P x) → (p x ≡ true) × P x
   go true on g ih = let same = some_is y x g in (ap p (sym same) ∙ on, subst P same h.0)
   go false off g ih = ih g

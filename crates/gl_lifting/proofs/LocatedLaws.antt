@@ -5,11 +5,11 @@ use Rattle.std.proofs.lemmas.Bool.{eq-eqb}
 use Rattle.gl_match.proofs.Lists.{in_none, in_cons, in_head, in_tail, in_flat_map}
 use Rattle.gl_match.specs.declared.role.Role.TheVariants.{Inner}
 use Rattle.gl_text.specs.Cards.{Device as Card}
-use Rattle.gl_text.specs.Decks.{Body, dev_at, call_at}
+use Rattle.gl_text.specs.Decks.{Body, dev_at, call_at, body_name}
 use Rattle.gl_text.specs.Flattening.{device_name, net_name}
 use Rattle.gl_base.specs.BaseCircuit.{Source}
 use Rattle.gl_base.specs.Patterns.{role_of}
-use Rattle.gl_base.specs.RoundReports.{card_name, instance_name}
+use Rattle.gl_base.specs.RoundReports.{instance_name}
 use Rattle.gl_lifting.specs.Runs.{Run, cell_nets}
 use Rattle.gl_lifting.specs.Replacement.{Origin, base, made, Part, Slot, Composite}
 use Rattle.gl_lifting.specs.Histories.{History, IsLawful}
@@ -96,7 +96,7 @@ module _ (run : Run) (h : History) (stem : List ℕ) (lawful : IsLawful run h) w
 
   -- a part's composite is on the way through its card
   pub part_way : (l : Located) → Contains (all_located stem h) l → (b : Body) (p : Part) (k : ℕ) → Contains (zip l.composite.cell.cards l.composite.parts) (b, p) → Contains l.composite.parts p → p.origin ≡ made k → (c : Composite) → Contains cs c → c.number ≡ k
-      → (m : Located) × Contains (all_located stem h) m × (m.composite ≡ c) × (m.way ≡ l.way ++ card_name b ∷ [])
+      → (m : Located) × Contains (all_located stem h) m × (m.composite ≡ c) × (m.way ≡ l.way ++ body_name b ∷ [])
   part_way l at b p k there part e c ac f =
       let own = one_of_all l at in
       let earlier = parts_are_earlier run h lawful own.0 l.composite p k own.1 (subst (λ (x : Composite). Contains x.parts p) (sym own.2) part) e in

@@ -1,9 +1,9 @@
 -- The names of the map are names, and its new names differ: this follows from links 4, 5 and 6 and the number of devices.
-use Rattle.std.proofs.Common.{◌≡◌, ◌+◌, ℕ, List, [], ◌∷◌, length, map, flat_map, true, Option, None, Some, refl, sym, ap, ◌∙◌, subst, arith, inl, inr}
+use Rattle.std.proofs.Common.{◌≡◌, ◌+◌, ℕ, List, [], ◌∷◌, length, map, flat_map, true, Option, None, Some, refl, sym, ap, ◌∙◌, subst, arith}
 use Rattle.std.specs.Prelude.{Contains, find, filter_map, option_map}
-use Rattle.std.specs.List.{AllByRecursion, cons_option}
+use Rattle.std.specs.List.{AllByRecursion}
 use Rattle.std.proofs.lemmas.List.{length-map}
-use Rattle.gl_match.proofs.Lists.{Once, once_map, from_map, in_map, in_none, in_cons, from_flat_map}
+use Rattle.gl_match.proofs.Lists.{Once, once_map, from_map, in_map, from_flat_map}
 use Rattle.gl_text.specs.LogicalLines.{same_text}
 use Rattle.gl_text.specs.Cards.{Device as Card, dev}
 use Rattle.gl_text.specs.Decks.{is_in}
@@ -22,7 +22,8 @@ use Rattle.gl_lifting.specs.Histories.{History}
 use Rattle.gl_lifting.specs.LiftedDecks.{lifted_deck}
 use Rattle.gl_lifting.specs.NameMaps.{NameMap, map_of}
 use Rattle.gl_lifting.specs.MapReading.{is_map_name}
-use Rattle.gl_lifting.specs.Renaming.{missing, extra, plain, plain_device, device_back, old_name, new_names, names_of_devices, restore_fault, renamed, first_missing, first_line, is_for_none}
+use Rattle.gl_text.specs.PlainFlats.{plain, plain_device}
+use Rattle.gl_lifting.specs.Renaming.{missing, extra, device_back, old_name, new_names, names_of_devices, restore_fault, renamed, first_missing, first_line, is_for_none}
 use Rattle.gl_lifting.specs.OutLimits.{lifted_flat}
 use Rattle.gl_lifting.specs.Lifted.{Options}
 use Rattle.gl_lifting.specs.Chain.{LiftedIsFlat, RenamedIsOriginal, LiftedIsRead, MapHasNames}
@@ -32,6 +33,8 @@ use Rattle.gl_lifting.proofs.FlatCardLaws.{in_each, one_key, cards_fine, cards_a
 use Rattle.gl_lifting.proofs.LimitLaws.{each_unmap}
 use Rattle.gl_lifting.proofs.RestoredLaws.{part_is_name, not_refused, no_fault, nothing, lines_known, names_known, pigeons, old_line, once_unmap}
 use Rattle.gl_text.specs.WayBack.{IsName}
+use Rattle.gl_lists.proofs.Filters.{from_filter_map}
+use Rattle.std.proofs.lemmas.Option.{same_Some as some_is}
 
 -- ---- names of flat decks
 
@@ -54,27 +57,12 @@ plain_cards : (xs : List Card) → map (λ (d : FlatDevice). d.card) (map plain_
 plain_cards [] = refl
 plain_cards (x ∷ xs) = ap (λ ys. x ∷ ys) (plain_cards xs)
 
--- what a filtering map gives comes from an item
-from_filter_map : {X Y : Type 0} (f : X → Option Y) (xs : List X) (y : Y) → Contains (filter_map f xs) y → (x : X) × (f x ≡ Some y)
-from_filter_map f [] y h = absurd (in_none y h)
-from_filter_map {X} {Y} f (x ∷ xs) y h = go (f x) refl h (from_filter_map f xs y) where
-  go : (o : Option Y) → f x ≡ o → Contains (cons_option o (filter_map f xs)) y → (Contains (filter_map f xs) y → (x : X) × (f x ≡ Some y)) → (x : X) × (f x ≡ Some y)
-  go None e g rest = rest g
-  go (Some z) e g rest =
-      elim (in_cons z (filter_map f xs) y g) [
-        | inl same ↦ (x, e ∙ ap Some same)
-        | inr later ↦ rest later
-      ]
-
 -- a node of a renamed device is the old name of some new one
 node_back : (m : NameMap) (ds : List Card) (lines : List (List ℕ × List ℕ)) (c : Card) (b : List ℕ) → Contains (filter_map (device_back m ds) lines) c → Contains c.nodes b → (y : List ℕ) × (old_name m.nets y ≡ b)
 node_back m ds lines c b h at =
     let r = from_filter_map (device_back m ds) lines c h in
     go r.0 (find (λ (d : Card). same_text d.name r.0.0) ds) r.1
   where
-    some_is : (a b : Card) → Some a ≡ Some b → a ≡ b
-    some_is a b e = cc
-
     go : (n : List ℕ × List ℕ) (o : Option Card) → option_map (λ (d : Card). record { name = n.1; nodes = map (old_name m.nets) d.nodes; model = d.model; tail = d.tail }) o ≡ Some c → (y : List ℕ) × (old_name m.nets y ≡ b)
     go n None e = absurd cc
     go n (Some d) e =

@@ -16,7 +16,8 @@ use Rattle.gl_lifting.specs.Runs.{run_of}
 use Rattle.gl_lifting.specs.Replacement.{Origin, made, Part, Slot, Composite}
 use Rattle.gl_lifting.specs.Histories.{History}
 use Rattle.gl_lifting.specs.Variants.{Variants, variant_of, variants_of, variant_names}
-use Rattle.gl_lifting.specs.LiftedDecks.{slot_card, top_sub, top_name, variant_sub, lifted_deck}
+use Rattle.gl_printed.specs.FlatDecks.{subs_around}
+use Rattle.gl_lifting.specs.LiftedDecks.{slot_card, top_name, variant_sub, lifted_deck}
 use Rattle.gl_lifting.specs.OutLimits.{limits, out_limit}
 use Rattle.gl_lifting.specs.Lifted.{Options}
 use Rattle.gl_lifting.specs.Chain.{IsLawfulOf}
@@ -85,7 +86,7 @@ module _ (deck_bytes library_bytes : List ℕ) (o : Options) (flat : Flat) (libr
   bodies = map (slot_card stem (cards_of flat) (variant_names (top_name flat) (variants_of (cards_of flat) h.last.composites).different) (variants_of (cards_of flat) h.last.composites).numbers) h.last.slots
 
   abbrev subs : List Sub
-  subs = map (variant_sub s names) (zip names vs.different) ++ top_sub flat.top bodies
+  subs = map (variant_sub s names) (zip names vs.different) ++ subs_around flat.top bodies
 
   found : (c : Composite) → Contains cs c → find_sub subs (name_at names (variant_of vs.numbers c.number)) ≡ Some (composite_sub s cards names vs.numbers c)
   found = facts.found deck_bytes library_bytes o flat library h stem is suited

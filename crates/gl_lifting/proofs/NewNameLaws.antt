@@ -3,10 +3,10 @@ use Rattle.std.proofs.Common.{◌≡◌, ◌<◌, ◌≤◌, ◌∙◌, ◌+◌,
 use Rattle.std.specs.Prelude.{◌||◌, Contains, position, slice_get, zip}
 use Rattle.std.specs.Option.{unwrap_or}
 use Rattle.std.specs.List.{enumerate_from, list_any, position_or_len}
-use Rattle.std.proofs.lemmas.Bool.{cases_lt, eq-eqb}
+use Rattle.std.proofs.lemmas.Bool.{cases_lt, eq-eqb, or_right}
 use Rattle.gl_match.proofs.AtLaws.{get_any}
 use Rattle.std.proofs.lemmas.List.{length-map}
-use Rattle.std.proofs.lemmas.Option.{slice_get_within}
+use Rattle.std.proofs.lemmas.Option.{slice_get_within, same_Some as some_is}
 use Rattle.gl_match.proofs.Lists.{in_head, in_tail}
 use Rattle.gl_match.specs.declared.role.Role.TheVariants.{Rail, Inner}
 use Rattle.gl_match.specs.Graph.{is_some_at, is_rail_net}
@@ -31,6 +31,7 @@ use Rattle.gl_lifting.proofs.InnerRowLaws.{inner_sum}
 use Rattle.gl_lifting.proofs.SeparateRoundLaws.{IsSeparated, RailsHome, HasImages}
 use Rattle.gl_lifting.proofs.LocatedLaws.{one_of_all, device_under, device_stays}
 use Rattle.gl_lifting.proofs.NetTableLaws.{net_rows, name_under, inner_under, outer_under}
+use Rattle.gl_lists.proofs.Bools.{not_both}
 
 -- ---- lists
 
@@ -63,20 +64,13 @@ rail_there [] r i e = absurd (let lt = slice_get_within [] r (Some i) e in omega
 rail_there (x ∷ rails) zero i e = ap (λ b. b || list_any (is_some_at i) rails) (by x e) where
   by : (x : Option ℕ) → Some x ≡ Some (Some i) → is_some_at i x ≡ true
   by None f = absurd cc
-  by (Some j) f = eq-eqb j i (some_is j i (some_is (Some j) (Some i) f)) where
-    some_is : {X : Type 0} (a b : X) → Some a ≡ Some b → a ≡ b
-    some_is a b e = cc
-rail_there (x ∷ rails) (suc r) i e = or_right (is_some_at i x) (list_any (is_some_at i) rails) (rail_there rails r i e) where
-  or_right : (a b : Bool) → b ≡ true → (a || b) ≡ true
-  or_right true b e = refl
-  or_right false b e = e
+  by (Some j) f = eq-eqb j i (some_is j i (some_is (Some j) (Some i) f))
+rail_there (x ∷ rails) (suc r) i e = or_right (is_some_at i x) (list_any (is_some_at i) rails) (rail_there rails r i e)
 
 -- the name at a place that a test finds
 found_at : (names nets : List (List ℕ)) (r i : ℕ) → slice_get (map (λ rail. position (same_text rail) nets) names) r ≡ Some (Some i) → (i < length nets) × (get_or nets i [] ≡ get_or names r []) × (r < length names)
 found_at [] nets r i e = absurd (let lt = slice_get_within [] r (Some i) e in omega (arith, lt))
-found_at (n ∷ ns) nets zero i e = let p = onces.position_back same_text exact itself nets n [] i (some_is (position (same_text n) nets) (Some i) e) in (p.0, p.1, omega arith) where
-  some_is : (a b : Option ℕ) → Some a ≡ Some b → a ≡ b
-  some_is a b e = cc
+found_at (n ∷ ns) nets zero i e = let p = onces.position_back same_text exact itself nets n [] i (some_is (position (same_text n) nets) (Some i) e) in (p.0, p.1, omega arith)
 found_at (n ∷ ns) nets (suc r) i e = let p = found_at ns nets r i e in (p.0, p.1, omega (arith, p.2))
 
 module _ (run : Run) (h : History) (stem : List ℕ) (lawful : IsLawful run h) (sep : IsSeparated run h.last) where
@@ -124,9 +118,6 @@ module _ (run : Run) (h : History) (stem : List ℕ) (lawful : IsLawful run h) (
         | inr none ↦ none
       ] in
       outer_stays i none ∙ ap top_net (p.1 ∙ q.1)
-    where
-      not_both : (b : Bool) → b ≡ true → b ≡ false → ⊥
-      not_both b t f = cc
 
   -- an inner net is below the composite
   inner_net : (l : Located) → Contains all l → (name : List ℕ) → Contains (cell_nets l.composite.cell) name → role_of run.source.rails l.composite.cell.head.ports name ≡ Inner → new_net (net_image l.composite name) ≡ record { path = l.way; name = name }
@@ -150,9 +141,7 @@ module _ (run : Run) (h : History) (stem : List ℕ) (lawful : IsLawful run h) (
       role : (a : Option ℕ) → position (same_text name) (all_rails run.source.rails) ≡ a → (b : Option ℕ) → position (same_text name) l.composite.cell.head.ports ≡ b → role_by a b ≡ Inner
       role (Some r) e b f = absurd (let p = onces.position_back same_text exact itself (all_rails run.source.rails) name [] r e in not_there off (r, p.0, get_any (all_rails run.source.rails) r name [] p.0 ∙ p.1)) where
         not_there : is_rail run.source.rails name ≡ false → Contains (all_rails run.source.rails) name → ⊥
-        not_there off at = no_both (is_rail run.source.rails name) (onces.found same_text exact itself (all_rails run.source.rails) name at) off where
-          no_both : (b : Bool) → b ≡ true → b ≡ false → ⊥
-          no_both b t f = cc
+        not_there off at = not_both (is_rail run.source.rails name) (onces.found same_text exact itself (all_rails run.source.rails) name at) off
       role None e (Some k) f = absurd (let p = onces.position_back same_text exact itself l.composite.cell.head.ports name [] k f in no_port (k, p.0, get_any l.composite.cell.head.ports k name [] p.0 ∙ p.1))
       role None e None f = refl
 

@@ -1,8 +1,7 @@
 -- A composite of a lawful instance has its inner nets for itself.
-use Rattle.std.proofs.Common.{◌≡◌, ◌<◌, ◌∙◌, ℕ, List, [], ◌∷◌, length, map, cond, eqb, Bool, true, false, Option, Some, None, refl, sym, ap, subst, arith, inl, inr, flat_map}
-use Rattle.std.specs.Prelude.{◌||◌, not, Contains, find, position, zip, option_map, slice_get}
+use Rattle.std.proofs.Common.{◌≡◌, ◌<◌, ◌∙◌, ℕ, List, [], ◌∷◌, length, map, cond, Bool, true, false, Option, Some, None, refl, sym, ap, subst, arith, inl, inr, flat_map}
+use Rattle.std.specs.Prelude.{not, Contains, find, position, zip, option_map, slice_get}
 use Rattle.std.specs.List.{AllByRecursion, position_or_len}
-use Rattle.std.proofs.lemmas.Bool.{eq-eqb}
 use Rattle.std.proofs.lemmas.List.{length-map}
 use Rattle.gl_match.proofs.Lists.{Once, in_none, in_cons, in_head, in_tail, in_map, from_map}
 use Rattle.gl_match.specs.declared.role.Role.TheVariants.{Rail, Inner}
@@ -34,6 +33,7 @@ use Rattle.gl_lifting.proofs.MatchedLaws.{SlotFrom, slot_from}
 use Rattle.gl_lifting.proofs.ChosenNetLaws.{image_on, one_image, inner_within, inner_device, rail_home}
 use Rattle.gl_lifting.proofs.InnerRowLaws.{rows_one, image_beside, inner_name}
 use Rattle.gl_lifting.proofs.SeparateLaws.{HasOwnNets}
+use Rattle.gl_match.proofs.Says.{in_if as has}
 
 -- ---- ports of searched cells
 
@@ -90,17 +90,6 @@ once_first (x ∷ xs) (y ∷ ys) o = ((λ at. o.0 (inside xs ys x at)), once_fir
   inside [] ys x at = absurd (in_none x at)
   inside (a ∷ xs) [] x at = absurd (in_none x at)
   inside (a ∷ xs) (b ∷ ys) x at = elim (in_cons a (map (λ (z : List ℕ × ℕ). z.0) (zip xs ys)) x at) [ inl same ↦ subst (λ y. Contains (a ∷ xs) y) same (in_head a xs) | inr later ↦ in_tail a xs x (inside xs ys x later) ]
-
--- what a list has passes its test
-has : (xs : List ℕ) (k : ℕ) → Contains xs k → is_in xs k ≡ true
-has [] k at = absurd (in_none k at)
-has (x ∷ xs) k at = elim (in_cons x xs k at) [
-  | inl same ↦ ap (λ b. b || is_in xs k) (eq-eqb x k same)
-  | inr later ↦ or_right (eqb x k) (is_in xs k) (has xs k later)
-] where
-  or_right : (a b : Bool) → b ≡ true → (a || b) ≡ true
-  or_right true b e = refl
-  or_right false b e = e
 
 -- ---- a lawful instance
 

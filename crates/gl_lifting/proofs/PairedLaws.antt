@@ -14,21 +14,18 @@ use Rattle.gl_base.specs.Rounds.{cards_of}
 use Rattle.gl_base.proofs.OnceLaws.{found}
 use Rattle.gl_base.proofs.TextLaws.{exact, itself, each_once, names_were, node_is_net}
 use Rattle.gl_lifting.specs.NameMaps.{NameMap}
-use Rattle.gl_lifting.specs.Renaming.{RestoreFault, missing, extra, net_merge, letter_changed, device_merge, old_name, device_back, new_names, first_line, is_for_none, is_merged, has_other_letter, restore_fault, restore, unless_fault, renamed, plain, plain_by, first_fault}
+use Rattle.gl_text.specs.PlainFlats.{plain, plain_by}
+use Rattle.gl_lifting.specs.Renaming.{RestoreFault, missing, extra, net_merge, letter_changed, device_merge, old_name, device_back, new_names, first_line, is_for_none, is_merged, has_other_letter, restore_fault, restore, unless_fault, renamed, first_fault}
 use Rattle.gl_lifting.specs.Pairing.{StandsFor, ArePaired}
 use Rattle.gl_lifting.proofs.SoughtLaws.{name_of, found_by_name, one_of_name, none_found, no_line, line_of_old, beside_line, beside_device, beside_right}
+use Rattle.gl_lists.proofs.Cons.{head_is, tail_is}
+use Rattle.gl_lists.proofs.Each.{each_in as one_of}
 
 abbrev old_names : List (List ℕ × List ℕ) → List (List ℕ)
 old_names lines = map (λ (m : List ℕ × List ℕ). m.1) lines
 
 abbrev card_by : List ℕ → List (List ℕ) → Option (List ℕ) → List ℕ → Card
 card_by name nodes model tail = record { name = name; nodes = nodes; model = model; tail = tail }
-
-head_is : (a b : List ℕ) (xs ys : List (List ℕ)) → a ∷ xs ≡ b ∷ ys → a ≡ b
-head_is a b xs ys e = cc
-
-tail_is : (a b : List ℕ) (xs ys : List (List ℕ)) → a ∷ xs ≡ b ∷ ys → xs ≡ ys
-tail_is a b xs ys e = cc
 
 -- what stands for an original device is it, under the old names
 pub back_is : (m : NameMap) (devices : List Card) (n : List ℕ × List ℕ) (c : Card) → Once (map name_of devices) → n.1 ≡ c.name → StandsFor m devices n c → device_back m devices n ≡ Some c
@@ -51,14 +48,6 @@ all_back m devices (n ∷ ns) (c ∷ cs) o e h =
     put : Option Card → List Card → List Card
     put None ds = ds
     put (Some d) ds = d ∷ ds
-
--- one of all
-one_of : {X : Type 0} (P : X → Type 0) (xs : List X) (x : X) → AllByRecursion P xs → Contains xs x → P x
-one_of P [] x h k = absurd (in_none x k)
-one_of {X} P (y ∷ ys) x h k = elim (in_cons y ys x k) [
-  | inl same ↦ subst P same h.0
-  | inr later ↦ one_of P ys x h.1 later
-]
 
 -- lines of one old name are one, where old names differ
 one_of_old : (ls : List (List ℕ × List ℕ)) (a b : List ℕ × List ℕ) → Once (old_names ls) → Contains ls a → Contains ls b → a.1 ≡ b.1 → a ≡ b

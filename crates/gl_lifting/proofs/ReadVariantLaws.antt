@@ -7,12 +7,12 @@ use Rattle.gl_match.proofs.Lists.{Once}
 use Rattle.gl_match.specs.Turns.{turn_at}
 use Rattle.gl_text.specs.LogicalLines.{NAME}
 use Rattle.gl_text.specs.Cards.{Device as Card, dev}
-use Rattle.gl_text.specs.Decks.{Body, dev_at, call_at, Sub, has_twice}
+use Rattle.gl_text.specs.Decks.{Body, dev_at, call_at, Sub, has_twice, body_name}
 use Rattle.gl_text.specs.Levels.{Down}
 use Rattle.gl_text.specs.Flattening.{Flat}
 use Rattle.gl_printed.specs.ReadCards.{IsFine}
-use Rattle.gl_printed.specs.ReadDecks.{body_card, body_name, FindsSubWithin, IsReadSub, IsReadDeck}
-use Rattle.gl_printed.specs.FlatDecks.{deck_of}
+use Rattle.gl_printed.specs.ReadDecks.{body_card, FindsSubWithin, IsReadSub, IsReadDeck}
+use Rattle.gl_printed.specs.FlatDecks.{deck_of, subs_around}
 use Rattle.gl_printed.proofs.Each.{each_left}
 use Rattle.gl_printed.proofs.PrintedFields.{Short}
 use Rattle.gl_base.specs.TypeNames.{of_cell, classes_of}
@@ -26,7 +26,7 @@ use Rattle.gl_base.proofs.TextLaws.{once_from}
 use Rattle.gl_lifting.specs.Replacement.{Composite}
 use Rattle.gl_lifting.specs.Histories.{History}
 use Rattle.gl_lifting.specs.Variants.{Carried, sized, built, Variant, Variants, card_at, variants_of, variant_names}
-use Rattle.gl_lifting.specs.LiftedDecks.{slot_card, top_sub, top_name, variant_card, variant_sub, lifted_deck}
+use Rattle.gl_lifting.specs.LiftedDecks.{slot_card, top_name, variant_card, variant_sub, lifted_deck}
 use Rattle.gl_lifting.specs.Suited.{HasSuited}
 use Rattle.gl_lifting.proofs.NamesApartLaws as apart_are
 use Rattle.gl_lifting.proofs.GoodVariantLaws.{Carries, Whole}
@@ -110,7 +110,7 @@ module _ (s : Source) (flat : Flat) (stem : List ℕ) (library : Library) (h : H
   pub name_parts : AllByRecursion IsName names
   name_parts = parts_behind (top_name flat) [] vs.different (omega (arith, low))
       (each_by_place (λ (v : Variant). IsName v.cell.head.name) vs.different (λ i v e. (head_parts v.cell.head (cell_read i v e).head).0))
-      (of_heads Short s names names vs.different many (each_left (λ (t : Sub). length t.head.name ≤ NAME) (map (variant_sub s names) (zip names vs.different)) (top_sub flat.top slots) written))
+      (of_heads Short s names names vs.different many (each_left (λ (t : Sub). length t.head.name ≤ NAME) (map (variant_sub s names) (zip names vs.different)) (subs_around flat.top slots) written))
 
   -- ---- variants
 
@@ -135,10 +135,10 @@ module _ (s : Source) (flat : Flat) (stem : List ℕ) (library : Library) (h : H
       (omega (arith, turned_long (turn_at classes g.turn) c.nodes, g.ports_are, cell_ports g.number g.variant g.stands)))
 
   abbrev more : List Sub
-  more = top_sub flat.top slots
+  more = subs_around flat.top slots
 
   abbrev subs : List Sub
-  subs = map (variant_sub s names) (zip names vs.different) ++ top_sub flat.top slots
+  subs = map (variant_sub s names) (zip names vs.different) ++ subs_around flat.top slots
 
   -- a variant is a subcircuit as it is read
   pub read_variant : Down (rank names) subs → (i : ℕ) (name : List ℕ) (v : Variant) → slice_get names i ≡ Some name → slice_get vs.different i ≡ Some v → IsReadSub subs (variant_sub s names (name, v))

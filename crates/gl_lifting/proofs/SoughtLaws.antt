@@ -8,6 +8,7 @@ use Rattle.gl_text.specs.LogicalLines.{same_text}
 use Rattle.gl_text.specs.Cards.{Device as Card}
 use Rattle.gl_base.proofs.TextLaws.{exact, itself}
 use Rattle.gl_lifting.specs.Renaming.{old_name, first_line}
+use Rattle.std.proofs.lemmas.Option.{same_Some as some_is}
 
 -- a name of a device
 abbrev pub name_of : Card → List ℕ
@@ -32,9 +33,6 @@ pub one_of_name : (devices : List Card) (a b : Card) → Once (map name_of devic
 one_of_name devices a b o ha hb e =
     let same : Some a ≡ Some b = sym (found_by_name devices a b.name o ha e) ∙ found_by_name devices b b.name o hb refl in
     some_is a b same
-  where
-    some_is : (x y : Card) → Some x ≡ Some y → x ≡ y
-    some_is x y f = cc
 
 -- what no element meets is not found
 pub none_found : {X : Type 0} (p : X → Bool) (xs : List X) → ((x : X) → Contains xs x → p x ≡ false) → find p xs ≡ None

@@ -3,7 +3,7 @@ use Rattle.std.proofs.Common.{◌≡◌, ◌≤◌, ◌<◌, ◌+◌, ◌^◌, �
 use Rattle.std.specs.Prelude.{Contains, slice_get, slice_index_or, zip, find, filter}
 use Rattle.std.specs.List.{AllByRecursion, enumerate_from}
 use Rattle.std.proofs.lemmas.List.Elements.{Contains-append_left, Contains-append_right}
-use Rattle.std.proofs.lemmas.Option.{slice_get_within, get_or_from_slice_get}
+use Rattle.std.proofs.lemmas.Option.{slice_get_within, get_or_from_slice_get, same_Some as some_is}
 use Rattle.gl_match.specs.Graph.{Device}
 use Rattle.gl_match.proofs.Lists.{in_cons, in_none, in_head, in_tail, in_map, in_flat_map, from_map, from_filter}
 use Rattle.gl_text.specs.LogicalLines.{same_text}
@@ -32,6 +32,7 @@ use Rattle.gl_lifting.proofs.SuitedLaws.{first_typed}
 use Rattle.gl_lifting.proofs.ChosenSuitLaws.{to_mapped}
 use Rattle.gl_lifting.proofs.SuitedStageLaws.{Below, Holds, StageHolds, find_in}
 use Rattle.gl_lifting.proofs.RoundLaws.{rounds_hold}
+pub use Rattle.gl_lists.proofs.Zips.{left_in}
 
 -- ---- the first stage
 
@@ -66,9 +67,6 @@ in_devices (dev_at l e ∷ cs) line d h = elim (in_cons (dev_at l e) cs (dev_at 
   | inl same ↦ let one = some_is e d (ap device_in same) in subst (λ x. Contains (e ∷ devices_in cs) x) one (in_head e (devices_in cs))
   | inr later ↦ in_tail e (devices_in cs) d (in_devices cs line d later)
 ]
-  where
-    some_is : (a b : Card) → Some a ≡ Some b → a ≡ b
-    some_is a b e = cc
 in_devices (call_at l c ∷ cs) line d h = elim (in_cons (call_at l c) cs (dev_at line d) h) [
   | inl same ↦ absurd cc
   | inr later ↦ in_devices cs line d later
@@ -78,9 +76,6 @@ in_devices (call_at l c ∷ cs) line d h = elim (in_cons (call_at l c) cs (dev_a
 find_true : (p : Sub → Bool) (xs : List Sub) (x : Sub) → find p xs ≡ Some x → p x ≡ true
 find_true p [] x e = absurd cc
 find_true p (y ∷ ys) x e = go (p y) refl e (find_true p ys x) where
-  some_is : (a b : Sub) → Some a ≡ Some b → a ≡ b
-  some_is a b e = cc
-
   go : (b : Bool) → p y ≡ b → cond b (Some y) (find p ys) ≡ Some x → (find p ys ≡ Some x → p x ≡ true) → p x ≡ true
   go true on e ih = ap p (sym (some_is y x e)) ∙ on
   go false off e ih = ih e
@@ -109,15 +104,6 @@ cell_known flat library keep read cell inside =
     each_in (IsOfKnownType (run_of flat library keep)) cell.cards (λ b at. card_known flat library keep cell inside b at (in_each (FindsSubWithin library.deck.subs cell.head.name) cell.cards b r.calls at))
 
 -- ---- searched cells
-
--- the first of a pair stands in the first list
-pub left_in : {X Y : Type 0} (xs : List X) (ys : List Y) (p : X × Y) → Contains (zip xs ys) p → Contains xs p.0
-left_in [] ys p h = absurd (in_none p h)
-left_in (x ∷ xs) [] p h = absurd (in_none p h)
-left_in {X} {Y} (x ∷ xs) (y ∷ ys) p h = elim (in_cons (x, y) (zip xs ys) p h) [
-  | inl same ↦ subst (λ (z : X × Y). Contains (x ∷ xs) z.0) same (in_head x xs)
-  | inr later ↦ in_tail x xs p.0 (left_in xs ys p later)
-]
 
 -- a searched cell is one of the library
 searched_in : (run : Run) (level : ℕ) (cell : Sub) → Contains (searched_at run level) cell → Contains run.library.deck.subs cell

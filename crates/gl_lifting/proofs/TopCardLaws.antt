@@ -11,10 +11,10 @@ use Rattle.gl_match.proofs.Lists.{Once, in_map, get_map}
 use Rattle.gl_match.specs.Graph.{Device}
 use Rattle.gl_text.specs.LogicalLines.{NAME}
 use Rattle.gl_text.specs.Cards.{Device as Card, dev, Kind, caller, by_byte, kinds, first_byte}
-use Rattle.gl_text.specs.Decks.{Sub, callees}
+use Rattle.gl_text.specs.Decks.{Sub, callees, body_name}
 use Rattle.gl_text.specs.Flattening.{Flat, top_ports}
 use Rattle.gl_printed.specs.ReadCards.{IsFine}
-use Rattle.gl_printed.specs.ReadDecks.{body_card, body_name, FindsSub}
+use Rattle.gl_printed.specs.ReadDecks.{body_card, FindsSub}
 use Rattle.gl_printed.proofs.Each.{each_to}
 use Rattle.gl_base.specs.BaseCircuit.{Source, nets_of}
 use Rattle.gl_base.specs.Rails.{all_rails}

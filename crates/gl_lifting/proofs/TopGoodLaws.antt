@@ -18,7 +18,8 @@ use Rattle.gl_lifting.specs.Runs.{Run, run_of, cell_nets}
 use Rattle.gl_lifting.specs.Replacement.{Origin, base, made, Part, Slot, Composite}
 use Rattle.gl_lifting.specs.Histories.{History}
 use Rattle.gl_lifting.specs.Variants.{Variants, variant_of, card_at, variants_of, variant_names}
-use Rattle.gl_lifting.specs.LiftedDecks.{slot_card, top_sub, top_name, variant_sub}
+use Rattle.gl_printed.specs.FlatDecks.{subs_around}
+use Rattle.gl_lifting.specs.LiftedDecks.{slot_card, top_name, variant_sub}
 use Rattle.gl_lifting.specs.NameMaps.{Located, all_located}
 use Rattle.gl_lifting.specs.Renaming.{names_of_devices}
 use Rattle.gl_lifting.specs.Lifted.{Options}
@@ -76,7 +77,7 @@ module _ (deck_bytes library_bytes : List ℕ) (o : Options) (flat : Flat) (libr
   bodies = map (slot_card stem (cards_of flat) (variant_names (top_name flat) (variants_of (cards_of flat) h.last.composites).different) (variants_of (cards_of flat) h.last.composites).numbers) h.last.slots
 
   abbrev subs : List Sub
-  subs = map (variant_sub (run_of flat library o.keep).source names) (zip names vs.different) ++ top_sub flat.top bodies
+  subs = map (variant_sub (run_of flat library o.keep).source names) (zip names vs.different) ++ subs_around flat.top bodies
 
   abbrev all : List Located
   all = all_located stem h

@@ -1,5 +1,5 @@
 -- Names that are turned back are the same names; the type of a device tells how many nodes it has, and whether it has a model.
-use Rattle.std.proofs.Common.{◌≡◌, ◌<◌, ℕ, zero, suc, List, [], ◌∷◌, length, get_or, map, cond, eqb, Bool, true, false, Option, None, Some, refl, sym, ap, ◌∙◌, subst, arith, inl, inr}
+use Rattle.std.proofs.Common.{◌≡◌, ◌<◌, ℕ, zero, suc, List, [], ◌∷◌, length, get_or, cond, eqb, Bool, true, false, Option, None, Some, refl, sym, ap, ◌∙◌, subst, arith, inl, inr}
 use Rattle.std.specs.Prelude.{◌==◌, Contains, option_to_list}
 use Rattle.std.specs.List.{AllByRecursion, range_with_len, position_or_len}
 use Rattle.std.proofs.lemmas.Bool.{cases_Bool, eqb-true, eq-eqb}
@@ -14,6 +14,7 @@ use Rattle.gl_base.specs.BaseCircuit.{Source, type_in}
 use Rattle.gl_base.specs.Reports.{name_at}
 use Rattle.gl_base.proofs.OnceLaws.{place_within}
 use Rattle.gl_lifting.specs.LiftedDecks.{turned_back}
+pub use Rattle.gl_lists.proofs.Each.{each_from as each_in, each_map as each_mapped}
 
 -- ---- items of lists, by their places
 
@@ -22,16 +23,6 @@ pub each_get : {X : Type 0} (P : X → Type 0) (xs : List X) (k : ℕ) (d : X) �
 each_get P [] k d h lt = absurd (omega (arith, lt))
 each_get P (x ∷ xs) zero d h lt = h.0
 each_get P (x ∷ xs) (suc k) d h lt = each_get P xs k d h.1 (omega (arith, lt))
-
--- what holds of whatever stands in a list holds of each
-pub each_in : {X : Type 0} (P : X → Type 0) (xs : List X) → ((x : X) → Contains xs x → P x) → AllByRecursion P xs
-each_in P [] f = tt
-each_in P (x ∷ xs) f = (f x (0, omega arith, refl), each_in P xs (λ y h. f y (suc h.0, omega (arith, h.1), h.2)))
-
--- what holds behind a map
-pub each_mapped : {X Y : Type 0} (P : Y → Type 0) (f : X → Y) (xs : List X) → AllByRecursion (λ x. P (f x)) xs → AllByRecursion P (map f xs)
-each_mapped P f [] h = tt
-each_mapped P f (x ∷ xs) h = (h.0, each_mapped P f xs h.1)
 
 -- ---- turned names
 

@@ -4,7 +4,7 @@ use Rattle.std.specs.Prelude.{◌||◌, not, decimal, filter, Contains}
 use Rattle.std.specs.List.{range_with_len, list_any}
 use Rattle.std.specs.Str.Parse.{AllDigits}
 use Rattle.std.specs.Char.{digit_value}
-use Rattle.std.proofs.lemmas.Bool.{eqb-true, eq-eqb, cases_Bool, false_from_ne_true}
+use Rattle.std.proofs.lemmas.Bool.{eqb-true, eq-eqb, cases_Bool, false_from_ne_true, or_right}
 use Rattle.std.proofs.lemmas.Fmt.{decimal_injective, decimal_is_IsNumeral}
 use Rattle.std.proofs.lemmas.List.{append-nil, get_or_append_left}
 use Rattle.std.proofs.lemmas.List.FromFn.{length-map-range_with_len, filter_of_map_range_with_len_more}
@@ -14,28 +14,14 @@ use Rattle.gl_text.specs.LogicalLines.{same_text}
 use Rattle.gl_base.proofs.OnceLaws.{filter_all, once_apart}
 use Rattle.gl_base.proofs.TextLaws.{exact}
 use Rattle.gl_lifting.specs.Variants.{variant_name, is_not_top, name_behind}
+pub use Rattle.gl_lists.proofs.Cons.{head_is as cons_head, tail_is as cons_tail}
+pub use Rattle.gl_lists.proofs.Bools.{not_both}
 
 -- ---- the last mark splits a text in one way
 
 -- a mark stands in a text
 abbrev pub has : ℕ → List ℕ → Bool
 has m xs = list_any (λ x. eqb x m) xs
-
--- texts that are the same have the same first byte, and the same rest
-pub cons_head : (a b : ℕ) (xs ys : List ℕ) → a ∷ xs ≡ b ∷ ys → a ≡ b
-cons_head a b xs ys e = cc
-
-pub cons_tail : (a b : ℕ) (xs ys : List ℕ) → a ∷ xs ≡ b ∷ ys → xs ≡ ys
-cons_tail a b xs ys e = cc
-
--- a test has one answer
-pub not_both : (b : Bool) → b ≡ true → b ≡ false → ⊥
-not_both b t f = cc
-
--- a choice holds by its second part
-or_right : (a b : Bool) → b ≡ true → (a || b) ≡ true
-or_right true b e = refl
-or_right false b e = e
 
 -- a mark stands in a text that has it
 has_within : (m : ℕ) (b y : List ℕ) → has m (b ++ m ∷ y) ≡ true

@@ -8,13 +8,12 @@ use Rattle.gl_match.proofs.Lists.{in_none, in_cons, in_head, in_tail}
 use Rattle.gl_match.specs.Graph.{Device, device_at}
 use Rattle.gl_text.specs.LogicalLines.{same_text}
 use Rattle.gl_text.specs.Cards.{Device as Card, Call, first_byte}
-use Rattle.gl_text.specs.Decks.{Body, dev_at, call_at, Sub, find_sub}
+use Rattle.gl_text.specs.Decks.{Body, dev_at, call_at, Sub, find_sub, body_name}
 use Rattle.gl_text.specs.Flattening.{Net, FlatDevice, Place, actual, net_of, device_name, inside, devices_of, flat_devices}
 use Rattle.gl_printed.proofs.Each.{each_append}
 use Rattle.gl_base.proofs.TextLaws.{itself}
 use Rattle.gl_lifting.proofs.EachLaws.{not_both}
 use Rattle.gl_base.specs.Reports.{name_at}
-use Rattle.gl_base.specs.RoundReports.{card_name}
 use Rattle.gl_lifting.specs.Runs.{Run, cell_nets, first_circuit}
 use Rattle.gl_lifting.specs.Replacement.{Origin, base, made, Part, Composite}
 use Rattle.gl_lifting.specs.Variants.{variant_of, card_at}
@@ -67,7 +66,7 @@ module _ (run : Run) (cards : List Card) (cs : List Composite) (names : List (Li
     (matched : (c : Composite) → Contains cs c → AllByRecursion (λ (z : Body × Part). IsMatched run cs c z.0 z.1) (zip c.cell.cards c.parts))
     (bound : (c : Composite) → Contains cs c → c.key.binding ≡ map (net_image c) c.cell.head.ports)
     (letters : (d : Card) (p : Part) (h : Leaf run.source cards d p) → first_byte (card_at cards h.suits.dev).name ≡ first_byte d.name)
-    (part_way : (l : Located) → Contains all l → (b : Body) (p : Part) (k : ℕ) → Contains (zip l.composite.cell.cards l.composite.parts) (b, p) → p.origin ≡ made k → (c : Composite) → Contains cs c → c.number ≡ k → (m : Located) × Contains all m × (m.composite ≡ c) × (m.way ≡ l.way ++ card_name b ∷ []))
+    (part_way : (l : Located) → Contains all l → (b : Body) (p : Part) (k : ℕ) → Contains (zip l.composite.cell.cards l.composite.parts) (b, p) → p.origin ≡ made k → (c : Composite) → Contains cs c → c.number ≡ k → (m : Located) × Contains all m × (m.composite ≡ c) × (m.way ≡ l.way ++ body_name b ∷ []))
     (device_new : (l : Located) → Contains all l → (line : ℕ) (d : Card) (p : Part) (dev : ℕ) → dev < length cards → Contains (zip l.composite.cell.cards l.composite.parts) (dev_at line d, p) → p.origin ≡ base dev → name_at devices dev ≡ device_name (record { path = l.way; card = d; nets = [] }))
     (others : (l : Located) → Contains all l → (name : List ℕ) → Contains (cell_nets l.composite.cell) name → (Contains l.composite.cell.head.ports name → ⊥) → net_of rails (record { path = l.way; ports = [] }) name ≡ new (net_image l.composite name)) where
   -- the nets of a place are the new nets of their images

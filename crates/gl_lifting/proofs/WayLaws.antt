@@ -5,8 +5,8 @@ use Rattle.std.specs.Option.{unwrap_or}
 use Rattle.std.specs.List.{AllByRecursion}
 use Rattle.std.proofs.lemmas.List.Elements.{Contains-append_left, Contains-append_right}
 use Rattle.gl_match.proofs.Lists.{in_none, in_cons, in_head, in_tail}
-use Rattle.gl_text.specs.Decks.{Body}
-use Rattle.gl_base.specs.RoundReports.{card_name, instance_name}
+use Rattle.gl_text.specs.Decks.{Body, body_name}
+use Rattle.gl_base.specs.RoundReports.{instance_name}
 use Rattle.gl_lifting.specs.Replacement.{Origin, base, made, Part, Composite}
 use Rattle.gl_lifting.specs.NameMaps.{Located, under, way_through, ways_through, located, located_behind}
 use Rattle.gl_lifting.proofs.FlatCardLaws.{in_each}
@@ -28,17 +28,17 @@ through_times k way (b ∷ bs) (p ∷ ps) = by p.origin (through_times k way bs 
   by (made n) le = omega (arith, le)
 
 -- a card whose part is a composite has a way through
-through_there : (way : List (List ℕ)) (bs : List Body) (ps : List Part) (b : Body) (p : Part) (k : ℕ) → Contains (zip bs ps) (b, p) → p.origin ≡ made k → Contains (filter_map (way_through way) (zip bs ps)) (k, way ++ card_name b ∷ [])
+through_there : (way : List (List ℕ)) (bs : List Body) (ps : List Part) (b : Body) (p : Part) (k : ℕ) → Contains (zip bs ps) (b, p) → p.origin ≡ made k → Contains (filter_map (way_through way) (zip bs ps)) (k, way ++ body_name b ∷ [])
 through_there way [] ps b p k at e = absurd (in_none (b, p) at)
 through_there way (x ∷ bs) [] b p k at e = absurd (in_none (b, p) at)
 through_there way (x ∷ bs) (q ∷ ps) b p k at e = elim (in_cons (x, q) (zip bs ps) (b, p) at) [
-  | inl same ↦ subst (λ (z : Body × Part). Contains (filter_map (way_through way) (z ∷ zip bs ps)) (k, way ++ card_name b ∷ [])) (sym same)
-      (subst (λ (o : Origin). Contains (filter_map (way_through way) ((b, record { turn = p.turn; origin = o }) ∷ zip bs ps)) (k, way ++ card_name b ∷ [])) (sym e) (in_head (k, way ++ card_name b ∷ []) (filter_map (way_through way) (zip bs ps))))
+  | inl same ↦ subst (λ (z : Body × Part). Contains (filter_map (way_through way) (z ∷ zip bs ps)) (k, way ++ body_name b ∷ [])) (sym same)
+      (subst (λ (o : Origin). Contains (filter_map (way_through way) ((b, record { turn = p.turn; origin = o }) ∷ zip bs ps)) (k, way ++ body_name b ∷ [])) (sym e) (in_head (k, way ++ body_name b ∷ []) (filter_map (way_through way) (zip bs ps))))
   | inr later ↦ by q.origin (through_there way bs ps b p k later e)
 ] where
-  by : (o : Origin) → Contains (filter_map (way_through way) (zip bs ps)) (k, way ++ card_name b ∷ []) → Contains (filter_map (way_through way) (zip (x ∷ bs) (record { turn = q.turn; origin = o } ∷ ps))) (k, way ++ card_name b ∷ [])
+  by : (o : Origin) → Contains (filter_map (way_through way) (zip bs ps)) (k, way ++ body_name b ∷ []) → Contains (filter_map (way_through way) (zip (x ∷ bs) (record { turn = q.turn; origin = o } ∷ ps))) (k, way ++ body_name b ∷ [])
   by (base d) h = h
-  by (made n) h = in_tail (n, way ++ card_name x ∷ []) (filter_map (way_through way) (zip bs ps)) (k, way ++ card_name b ∷ []) h
+  by (made n) h = in_tail (n, way ++ body_name x ∷ []) (filter_map (way_through way) (zip bs ps)) (k, way ++ body_name b ∷ []) h
 
 -- ---- located composites
 
@@ -77,7 +77,7 @@ under_way stem ways (d ∷ ds) k w le at c ac e =
 -- a part's composite is on the way through its card
 pub way_on : (stem : List ℕ) (ways : List (ℕ × List (List ℕ))) (ds : List Composite) (k : ℕ) → times k ways + parts_weight (one_made k) ds ≤ 1 → Descend ds → (l : Located) → Contains (located_behind stem ways ds) l → k < l.composite.number
     → (b : Body) (p : Part) → Contains (zip l.composite.cell.cards l.composite.parts) (b, p) → p.origin ≡ made k → (c : Composite) → Contains ds c → c.number ≡ k
-    → (m : Located) × Contains (located_behind stem ways ds) m × (m.composite ≡ c) × (m.way ≡ l.way ++ card_name b ∷ [])
+    → (m : Located) × Contains (located_behind stem ways ds) m × (m.composite ≡ c) × (m.way ≡ l.way ++ body_name b ∷ [])
 way_on stem ways [] k le down l at less b p part e c ac f = absurd (in_none c ac)
 way_on stem ways (d ∷ ds) k le down l at less b p part e c ac f =
     let own = located stem ways d in
@@ -93,8 +93,8 @@ way_on stem ways (d ∷ ds) k le down l at less b p part e c ac f =
             | inr later ↦ later
           ] in
           let row = through_there l.way l.composite.cell.cards l.composite.parts b p k part e in
-          let there = subst (λ (x : Located). Contains (ways_through x) (k, l.way ++ card_name b ∷ [])) (sym same) row in
-          let r = under_way stem more ds k (l.way ++ card_name b ∷ []) low (Contains-append_right ways (ways_through own) (k, l.way ++ card_name b ∷ []) there) c behind f in
+          let there = subst (λ (x : Located). Contains (ways_through x) (k, l.way ++ body_name b ∷ [])) (sym same) row in
+          let r = under_way stem more ds k (l.way ++ body_name b ∷ []) low (Contains-append_right ways (ways_through own) (k, l.way ++ body_name b ∷ []) there) c behind f in
           (r.0, in_tail own rest r.0 r.1, r.2, r.3)
       | inr later ↦
           let lower = in_each (λ (x : Composite). x.number < d.number) ds l.composite down.0 (located_one stem more ds l later) in

@@ -1,11 +1,10 @@
 -- What the jobs `lift` and `restore` write, from bytes to bytes, where histories are computed by trying maps: each row of a worked case can be read off.
-use Rattle.std.specs.Prelude.{ℕ, true, IsOkAnd, List, Option, Some, None, Result, Ok, Err}
+use Rattle.std.specs.Prelude.{ℕ, true, List, Option, Some, None, Result, Ok, Err}
 use Rattle.gl_text.specs.LogicalLines.{Fault}
 use Rattle.gl_text.specs.Decks.{Deck, read_deck, deck_text}
 use Rattle.gl_text.specs.Flattening.{Flat, flatten, flat_text}
 use Rattle.gl_base.specs.Libraries.{Cause, Library, read_library}
 use Rattle.gl_base.specs.Rails.{run_rails}
-use Rattle.gl_base.specs.Lifting.{flat_deck}
 use Rattle.gl_base.specs.Stems.{names_in, stem_of}
 use Rattle.gl_base.specs.Rounds.{source_of}
 use Rattle.gl_base.specs.Keeping.{unknown_keep}
@@ -81,6 +80,7 @@ pub data BackRefusal : Type 0 where
   of_names : RestoreFault → BackRefusal
   of_length : OutLimit → BackRefusal
 
+-- the text of a flat deck, unless a limit is passed
 abbrev pub text_within : Option OutLimit → Flat → Result (List ℕ) BackRefusal
 text_within None flat = Ok (flat_text flat)
 text_within (Some limit) flat = Err (of_length limit)
@@ -110,9 +110,3 @@ text_of_deck top names (Err fault) = Err (of_lifted fault)
 -- what `restore` writes of the bytes of a lifted deck and of a map
 abbrev pub restore_job : Option (List ℕ) → List ℕ → List ℕ → Result (List ℕ) BackRefusal
 restore_job top lifted names = text_of_deck top names (read_deck true lifted)
-
--- ---- what a row speaks of
-
--- the bytes are a deck and a library, the deck is flattened with the rails of the run, and this is so of what comes out
-abbrev pub Accepted : List ℕ → List ℕ → (Flat → Library → Type 0) → Type 0
-Accepted deck library Told = IsOkAnd (read_deck true deck) (λ (d : Deck). IsOkAnd (read_library library) (λ (l : Library). IsOkAnd (flat_deck d l) (λ (f : Flat). Told f l)))

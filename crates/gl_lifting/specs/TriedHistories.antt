@@ -1,17 +1,16 @@
 -- Histories that are computed by trying maps card by card: on small rows, what the definitions of lifting say can be read off.
 use Rattle.std.specs.Prelude.{ℕ, suc, Bool, List, [], ◌∷◌, ◌++◌, length, map, filter, flat_map, fold, ◌&&◌, true}
-use Rattle.std.specs.List.{list_all, range_with_len}
+use Rattle.std.specs.List.{range_with_len}
 use Rattle.gl_match.specs.declared.spot.Spot.{Spot}
-use Rattle.gl_match.specs.Graph.{Device, Circuit, Pattern, role_at}
-use Rattle.gl_match.specs.LegalMaps.{pairs_of}
-use Rattle.gl_match.specs.LegalTests.{is_consistent, stays_inside, all_zip}
+use Rattle.gl_match.specs.Graph.{Device, Circuit, Pattern}
+use Rattle.gl_match.specs.LegalTests.{is_consistent, is_closed, all_zip}
 use Rattle.gl_match.specs.Keys.{key_of}
 use Rattle.gl_match.specs.Listing.{Instance}
 use Rattle.gl_match.specs.Choice.{sets_of}
 use Rattle.gl_match.specs.Picks.{picks_of}
 use Rattle.gl_lifting.specs.Runs.{Run, pattern_in, searched_at}
 use Rattle.gl_lifting.specs.Histories.{Stage, Round, History, circuit_at, first_stage, stage_behind, levels_of}
-use Rattle.gl_base.specs.Tried.{spots_of, put, ascends, has_key, is_instance}
+use Rattle.gl_base.specs.Tried.{spots_of, put, is_listed_by}
 
 -- ---- lists
 
@@ -23,10 +22,6 @@ grown c p parts part maps = filter (is_consistent c p (parts ++ part ∷ [])) (f
 abbrev pub grown_by : Circuit → Pattern → List Device → List (List Spot) → List Device → List (List Spot)
 grown_by c p before maps [] = maps
 grown_by c p before maps (part ∷ parts) = grown_by c p (before ++ part ∷ []) (grown c p before part maps) parts
-
--- the map leaves no inner net's image to others
-abbrev pub is_closed : Circuit → Pattern → List Spot → Bool
-is_closed c p m = list_all (λ (pair : ℕ × ℕ). stays_inside c m (role_at p pair.0) pair.1) (pairs_of c p.devices m)
 
 -- the legal maps, in ascending order
 abbrev pub tried_maps : Circuit → Pattern → List (List Spot)
@@ -55,8 +50,7 @@ tried_history run = fold (with_round run) (record { rounds = []; last = first_st
 
 -- the list is complete, by the maps that are tried
 abbrev pub is_complete : Circuit → Pattern → List Instance → Bool
-is_complete c p items = let legal = tried_maps c p in let keys = map (λ (i : Instance). i.key) items in
-    ascends keys && list_all (λ m. has_key keys (key_of c p m)) legal && list_all (is_instance c p legal) items
+is_complete c p items = is_listed_by c p (tried_maps c p) items
 
 -- the lists of the round of a level behind a stage are complete
 abbrev pub is_round_complete : Run → ℕ → Stage → Bool

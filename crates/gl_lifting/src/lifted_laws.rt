@@ -11,59 +11,39 @@ ghost use Rattle.gl_lifting.specs.Histories.{History};
 ghost use Rattle.gl_lifting.specs.LiftedDecks.{lifted_deck};
 ghost use Rattle.gl_lifting.specs.OutLimits.{lifted_flat, limits, out_limit};
 ghost use Rattle.gl_lifting.specs.Lifted.{LiftsBack, Options as Asked};
-ghost use Rattle.gl_lifting.specs.Chain.{IsLawfulOf, LinksHold, LiftedIsFlat, RenamedIsOriginal};
-ghost use Rattle.gl_lifting.specs.FewerLinks.{FewerLinksHold};
+ghost use Rattle.gl_lifting.specs.Chain.{IsLawfulOf, LinksHold, LiftedIsFlat, RenamedIsOriginal, OfBytes, OfBytesWithin};
+ghost use Rattle.gl_lifting.specs.FewerLinks.{FewerLinksHold, HasSomeNet, AreFew, HaveNames, HasAsMany};
 ghost use Rattle.gl_lifting.specs.NameMaps.{map_of};
 ghost use Rattle.gl_lifting.specs.Pairing.{ArePaired};
 ghost use Rattle.gl_lifting.specs.Suited.{HasSuited};
 
 /// Of a lawful history of bytes: composites can be numbered, and where there is one the deck has a net; so all parts suit.
 pub fn lawful_parts_suit()
-    ensures few { (deck_bytes library_bytes : List ℕ) (o : Asked) (flat : Flat) (library : Library) (h : History)
-        (stem : List ℕ) → IsLawfulOf deck_bytes library_bytes o flat library h stem
-        → length h.last.composites + 3 ≤ 2 ^ 64 }
-    ensures some_net { (deck_bytes library_bytes : List ℕ) (o : Asked) (flat : Flat) (library : Library) (h : History)
-        (stem : List ℕ) → IsLawfulOf deck_bytes library_bytes o flat library h stem
-        → 0 < length h.last.composites → 0 < length (nets_of (cards_of flat)) }
-    ensures suited { (deck_bytes library_bytes : List ℕ) (o : Asked) (flat : Flat) (library : Library) (h : History)
-        (stem : List ℕ) → IsLawfulOf deck_bytes library_bytes o flat library h stem
-        → HasSuited (run_of flat library o.keep).source flat library h }
+    ensures few { OfBytes (λ o flat run h stem. AreFew h) }
+    ensures some_net { OfBytes (λ o flat run h stem. HasSomeNet flat h) }
+    ensures suited { OfBytes (λ o flat run h stem. HasSuited run.source flat run.library h) }
 {}
 
 /// The lifted deck of a lawful history of bytes has, flattened, as many devices as the original; within its limits it
 /// is flattened: not too deep, and without a clash.
 pub fn lifted_decks_are_flat()
-    ensures many { (deck_bytes library_bytes : List ℕ) (o : Asked) (flat : Flat) (library : Library) (h : History)
-        (stem : List ℕ) → IsLawfulOf deck_bytes library_bytes o flat library h stem
-        → length (lifted_flat flat.top (lifted_deck stem flat (run_of flat library o.keep).source h)).devices
-        ≡ length flat.devices }
-    ensures flat { (deck_bytes library_bytes : List ℕ) (o : Asked) (flat : Flat) (library : Library) (h : History)
-        (stem map report : List ℕ) → IsLawfulOf deck_bytes library_bytes o flat library h stem
-        → out_limit limits flat.top (lifted_deck stem flat (run_of flat library o.keep).source h) map report ≡ None
-        → LiftedIsFlat o flat (run_of flat library o.keep) h stem }
+    ensures many { OfBytes (λ o flat run h stem. HasAsMany flat run h stem) }
+    ensures flat { OfBytesWithin LiftedIsFlat }
 {}
 
 /// Each composite of a lawful history of bytes within its limits can be named: below one of no lower number at the top
 /// there is a device, whose flat name is longer.
 pub fn composites_are_named()
-    ensures named { (deck_bytes library_bytes : List ℕ) (o : Asked) (flat : Flat) (library : Library) (h : History)
-        (stem map report : List ℕ) → IsLawfulOf deck_bytes library_bytes o flat library h stem
-        → out_limit limits flat.top (lifted_deck stem flat (run_of flat library o.keep).source h) map report ≡ None
-        → (n : ℕ) → 0 < n → n ≤ length h.last.composites → length (instance_name stem n) ≤ NAME }
+    ensures named { OfBytesWithin (λ o flat run h stem. HaveNames stem h) }
 {}
 
 /// Each device of the flattened lifted deck stands for an original one, line by line of the map; so renamed it is the
 /// original deck.
 pub fn lifted_decks_are_renamed()
-    ensures paired { (deck_bytes library_bytes : List ℕ) (o : Asked) (flat : Flat) (library : Library) (h : History)
-        (stem map report : List ℕ) → IsLawfulOf deck_bytes library_bytes o flat library h stem
-        → out_limit limits flat.top (lifted_deck stem flat (run_of flat library o.keep).source h) map report ≡ None
-        → ArePaired (lifted_flat flat.top (lifted_deck stem flat (run_of flat library o.keep).source h))
-        (map_of stem flat (run_of flat library o.keep).source h) flat }
-    ensures renamed { (deck_bytes library_bytes : List ℕ) (o : Asked) (flat : Flat) (library : Library) (h : History)
-        (stem map report : List ℕ) → IsLawfulOf deck_bytes library_bytes o flat library h stem
-        → out_limit limits flat.top (lifted_deck stem flat (run_of flat library o.keep).source h) map report ≡ None
-        → RenamedIsOriginal flat (run_of flat library o.keep) h stem }
+    ensures paired { OfBytesWithin (λ o flat run h stem.
+        ArePaired (lifted_flat flat.top (lifted_deck stem flat run.source h))
+        (map_of stem flat run.source h) flat) }
+    ensures renamed { OfBytesWithin (λ o flat run h stem. RenamedIsOriginal flat run h stem) }
 {}
 
 /// The lift theorem: what was lifted of any deck and library, with any options, can be restored. Each link of it holds

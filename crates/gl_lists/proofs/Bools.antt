@@ -13,3 +13,7 @@ and_not_itself false = refl
 
 pub eqb_flip : (x y : ℕ) → eqb x y ≡ eqb y x
 eqb_flip x y = both_ways (eqb x y) (eqb y x) (λ e. eq-eqb y x (sym (eqb-true x y e))) (λ e. eq-eqb x y (sym (eqb-true y x e)))
+
+-- a test has one answer
+pub not_both : (b : Bool) → b ≡ true → b ≡ false → ⊥
+not_both b t f = cc

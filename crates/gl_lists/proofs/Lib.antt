@@ -6,3 +6,4 @@ pub mod Filters
 pub mod EachOnce
 pub mod Zips
 pub mod Each
+pub mod Cons

@@ -1,5 +1,8 @@
 -- Lists beside each other, item by item.
-use Rattle.std.proofs.Common.{◌≡◌, ◌+◌, ◌<◌, ℕ, zero, suc, List, [], ◌∷◌, ◌++◌, length, get_or, map, refl, ap, ◌∙◌, arith}
+use Rattle.std.proofs.Common.{◌≡◌, ◌+◌, ◌<◌, ℕ, zero, suc, List, [], ◌∷◌, ◌++◌, length, get_or, map, refl, ap, ◌∙◌, subst, inl, inr, arith}
+use Rattle.std.specs.Prelude.{All, AllPairs, Contains}
+use Rattle.std.proofs.lemmas.List.{get_or_append_left, length-append}
+use Rattle.gl_lists.proofs.Membership.{in_head, in_tail, in_cons, in_none}
 use Rattle.std.specs.List.{range_with_len, AllZip, zip}
 
 -- related item by item, by index
@@ -38,3 +41,50 @@ map_get_range {X} xs d = from xs 0 (λ k. get_or xs k d) d (λ k lt. ap (λ j. g
 
 pub pair_eq : {X Y : Type 0} (a b : X × Y) → a.0 ≡ b.0 → a.1 ≡ b.1 → a ≡ b
 pair_eq (x, y) (u, v) e f = cc
+
+pub length_zips : {X Y : Type 0} (R : X → Y → Type 0) (xs : List X) (ys : List Y) → AllZip R xs ys → length xs ≡ length ys
+length_zips R [] [] h = refl
+length_zips R [] (y ∷ ys) h = absurd h
+length_zips R (x ∷ xs) [] h = absurd h
+length_zips R (x ∷ xs) (y ∷ ys) h = ap suc (length_zips R xs ys h.1)
+
+-- ---- fronts
+
+pub zip_front : {X Y : Type 0} (R : X → Y → Type 0) (xs xs' : List X) (ys ys' : List Y) → length xs ≡ length ys → AllZip R (xs ++ xs') (ys ++ ys') → AllZip R xs ys
+zip_front R [] xs' [] ys' e h = tt
+zip_front R [] xs' (y ∷ ys) ys' e h = absurd (omega (arith, e))
+zip_front R (x ∷ xs) xs' [] ys' e h = absurd (omega (arith, e))
+zip_front R (x ∷ xs) xs' (y ∷ ys) ys' e h = (h.0, zip_front R xs xs' ys ys' (omega (arith, e)) h.1)
+
+pub pairs_front : {X : Type 0} (R : X → X → Type 0) (xs ys : List X) → AllPairs R (xs ++ ys) → AllPairs R xs
+pairs_front R xs ys h i j d lt lt' =
+    let both = h i j d lt (omega (arith, length-append xs ys)) in
+    rw (get_or_append_left xs ys d i (omega arith), get_or_append_left xs ys d j lt') at both
+
+pub all_front : {X : Type 0} (P : X → Type 0) (xs ys : List X) → All P (xs ++ ys) → All P xs
+all_front P xs ys h k d lt =
+    let one = h k d (omega (arith, length-append xs ys)) in
+    rw (get_or_append_left xs ys d k lt) at one
+
+-- ---- what stands in lists beside each other
+
+pub left_in : {X Y : Type 0} (xs : List X) (ys : List Y) (p : X × Y) → Contains (zip xs ys) p → Contains xs p.0
+left_in [] ys p h = absurd (in_none p h)
+left_in (x ∷ xs) [] p h = absurd (in_none p h)
+left_in {X} {Y} (x ∷ xs) (y ∷ ys) p h = elim (in_cons (x, y) (zip xs ys) p h) [
+  | inl same ↦ subst (λ (z : X × Y). Contains (x ∷ xs) z.0) same (in_head x xs)
+  | inr later ↦ in_tail x xs p.0 (left_in xs ys p later)
+]
+
+pub right_in : {X Y : Type 0} (xs : List X) (ys : List Y) (p : X × Y) → Contains (zip xs ys) p → Contains ys p.1
+right_in [] ys p h = absurd (in_none p h)
+right_in (x ∷ xs) [] p h = absurd (in_none p h)
+right_in {X} {Y} (x ∷ xs) (y ∷ ys) p h = elim (in_cons (x, y) (zip xs ys) p h) [
+  | inl same ↦ subst (λ (z : X × Y). Contains (y ∷ ys) z.1) same (in_head y ys)
+  | inr later ↦ in_tail y ys p.1 (right_in xs ys p later)
+]
+
+-- a map after a map
+pub map_map : {X Y Z : Type 0} (f : Y → Z) (g : X → Y) (xs : List X) → map f (map g xs) ≡ map (λ x. f (g x)) xs
+map_map f g [] = refl
+map_map {X} {Y} {Z} f g (x ∷ xs) = ap (λ (zs : List Z). f (g x) ∷ zs) (map_map f g xs)

@@ -1,5 +1,5 @@
 -- Bytes: separators, folding, trimming.
-use Rattle.std.proofs.Common.{◌≡◌, ◌≤◌, ◌+◌, ℕ, List, [], ◌∷◌, ◌++◌, length, cond, eqb, leb, true, false, Bool, refl, ap, arith, ne_eqb, leb-true}
+use Rattle.std.proofs.Common.{◌≡◌, ◌≤◌, ◌+◌, ℕ, List, [], ◌∷◌, ◌++◌, length, cond, eqb, leb, false, Bool, refl, ap, arith, ne_eqb, leb-true}
 use Rattle.std.specs.Prelude.{◌||◌, ◌&&◌}
 use Rattle.std.specs.List.{AllByRecursion}
 use Rattle.std.proofs.lemmas.Bool.{or_parts, lt-leb, and_parts}
@@ -7,6 +7,7 @@ use Rattle.gl_text.specs.LogicalLines.{is_blank, is_separator, is_loose, fold_by
 use Rattle.gl_text.specs.WayBack.{IsOneLine}
 use Rattle.gl_lists.proofs.Each.{by_cond}
 use Rattle.gl_text.proofs.Trims.{end_shorter, front_shorter, squeezed_shorter}
+use Rattle.std.proofs.Math.Bool.{and-false as and_no}
 
 abbrev pub Plain : List ℕ → Type 0
 Plain bytes = AllByRecursion (λ b. is_separator b ≡ false) bytes
@@ -37,10 +38,7 @@ pub fold_line : (b : ℕ) → eqb b 10 ≡ false → eqb (fold_byte b) 10 ≡ fa
 fold_line b h = fold_elim (λ x. eqb x 10 ≡ false) b (λ l r. ne_eqb (b + 32) 10 (omega arith)) (λ e. h)
 
 low_again : (b : ℕ) → 65 ≤ b → fold_byte (b + 32) ≡ b + 32
-low_again b h = rw (lt-leb (b + 32) 90 (omega arith), and_no (leb 65 (b + 32))) refl where
-  and_no : (t : Bool) → (t && false) ≡ false
-  and_no true = refl
-  and_no false = refl
+low_again b h = rw (lt-leb (b + 32) 90 (omega arith), and_no (leb 65 (b + 32))) refl
 
 pub fold_twice : (b : ℕ) → fold_byte (fold_byte b) ≡ fold_byte b
 fold_twice b = fold_elim (λ x. fold_byte x ≡ x) b (λ l r. low_again b l) (λ e. e)

@@ -6,8 +6,7 @@ use Rattle.std.proofs.lemmas.List.{map-append}
 use Rattle.std.proofs.lemmas.List.Elements.{filter_map-append}
 use Rattle.gl_text.specs.LogicalLines.{Fault, duplicate_name, same_text}
 use Rattle.gl_text.specs.Cards.{Model, Head, Card, dev, call, model, subckt}
-use Rattle.gl_text.specs.Decks.{Body, dev_at, call_at, Scope, Placed, Named, in_scope, of_model, of_sub, nothing, named, same_named, duplicate, is_in, has_twice, body_of, model_of}
-use Rattle.gl_printed.specs.ReadDecks.{body_name}
+use Rattle.gl_text.specs.Decks.{Body, dev_at, call_at, Scope, Placed, Named, in_scope, of_model, of_sub, nothing, named, same_named, duplicate, is_in, has_twice, body_of, model_of, body_name}
 use Rattle.gl_printed.proofs.NamesTwice.{twice_middle, twice_more}
 use Rattle.gl_lists.proofs.Bools.{eqb_flip}
 use Rattle.std.proofs.lemmas.Option.{same_Some}

@@ -4,10 +4,10 @@ use Rattle.std.specs.List.{AllByRecursion}
 use Rattle.gl_text.specs.LogicalLines.{NAME, Fault, long_flat_name, long_text}
 use Rattle.gl_fault.specs.Refusals.{first_some, when, or_else, ◌>>=◌}
 use Rattle.gl_text.specs.Cards.{Head, dev, model, subckt, ends, global, passed, ended}
-use Rattle.gl_text.specs.Decks.{Body, dev_at, Sub, Deck, body_line, sub_text, line_of, has_twice, is_in, find_sub, read_deck, deck_text}
+use Rattle.gl_text.specs.Decks.{Body, dev_at, Sub, Deck, body_line, sub_text, line_of, has_twice, is_in, find_sub, read_deck, deck_text, body_name}
 use Rattle.gl_text.specs.Flattening.{DEPTH, TEXT, FlatDevice, Flat, Bearer, net, top_net, top_ports, top_place, flat_devices, bearers, bearer_name, first_clash, chosen, device_name, flat_card, around, flat_text, flatten, flat_of}
 use Rattle.gl_printed.specs.ReadCards.{IsFine}
-use Rattle.gl_printed.specs.ReadDecks.{body_card, body_name, AllDiffer, FindsSub, FindsSubWithin, IsReadSub, IsReadDeck, unnumbered_body, unnumbered}
+use Rattle.gl_printed.specs.ReadDecks.{body_card, AllDiffer, FindsSub, FindsSubWithin, IsReadSub, IsReadDeck, unnumbered_body, unnumbered}
 use Rattle.gl_printed.specs.FlatDecks.{AreRails, flat_cards, subs_around, top_without, deck_of, FlatReadsBack}
 use Rattle.gl_lists.proofs.Each.{each_both, each_map, each_true}
 use Rattle.gl_fault.proofs.FirstLaws.{or_else_ok, bind_ok}

@@ -4,9 +4,9 @@ use Rattle.std.specs.Prelude.{◌&&◌, ◌||◌, option_to_list}
 use Rattle.std.specs.List.{AllByRecursion, join_with_byte, list_any}
 use Rattle.std.proofs.lemmas.Bool.{or_parts}
 use Rattle.gl_text.specs.LogicalLines.{NAME, TAIL, long_tail, parameters, Line, Piece, is_blank, is_separator, fold_byte, folded, fields_of, head_bytes, tail_of}
-use Rattle.gl_text.specs.WayBack.{IsOneLine, IsName}
+use Rattle.gl_text.specs.WayBack.{IsOneLine, IsName, IsReadAgain}
 use Rattle.gl_fault.specs.Refusals.{when}
-use Rattle.gl_text.specs.Cards.{Card, Model, Head, dev, call, model, subckt, ends, global, ended, passed, Kind, modelling, opening, closing, globals, other, kinds, by_byte, word_in, dot_words, kind_of, needs, names_of, tail_at, first_or, card_by, card_of, all_fields, no_card, no_card_by, has_parameters, has_nodes, has_long_tail, tail_fault, is_unknown, is_control, read_card, with_tail, spaced, printed}
+use Rattle.gl_text.specs.Cards.{Card, Model, Head, dev, call, model, subckt, ends, global, ended, passed, Kind, modelling, opening, closing, globals, other, kinds, by_byte, word_in, dot_words, kind_of, needs, names_of, tail_at, first_or, card_by, card_of, all_fields, no_card, no_card_by, has_parameters, has_nodes, has_long_tail, tail_fault, is_unknown, is_control, read_card, with_tail, spaced}
 use Rattle.gl_text.proofs.CardLaws.{names_are, behind_is, short_names, all_none, device_again}
 use Rattle.gl_text.proofs.CallCardLaws.{call_again}
 use Rattle.gl_printed.specs.ReadCards.{IsRead, IsReadDevice, IsReadCall, IsReadModel, IsReadText, IsFine}
@@ -93,7 +93,7 @@ tail_spaced : (tail : List ℕ) → tail_of tail ≡ tail → tail_of (spaced ta
 tail_spaced [] h = refl
 tail_spaced (b ∷ tail) h = h
 
-model_again : (line : ℕ) (m : Model) → IsReadModel m → read_card (record { line = line; text = printed (model m) }) ≡ Ok (model m)
+model_again : (line : ℕ) (m : Model) → IsReadModel m → IsReadAgain line (model m)
 unfolding NoEqual
 model_again line m h =
     let rest = m.name ∷ m.word ∷ [] in
@@ -104,7 +104,7 @@ model_again line m h =
     read_by line text modelling fs m.tail (model m) (dot_kind (codes "model") rest m.tail (rest ++ all_fields m.tail) f) f
     (ap tail_of (behind_is (codes ".model") rest m.tail all) ∙ tail_spaced m.tail h.normal) h.names refl (omega arith) refl refl h.short refl
 
-subckt_again : (line : ℕ) (h : Head) → AllByRecursion IsName (h.name ∷ h.ports) → read_card (record { line = line; text = printed (subckt h) }) ≡ Ok (subckt h)
+subckt_again : (line : ℕ) (h : Head) → AllByRecursion IsName (h.name ∷ h.ports) → IsReadAgain line (subckt h)
 unfolding NoEqual Free
 subckt_again line h n =
     let rest = h.name ∷ h.ports in
@@ -113,14 +113,14 @@ subckt_again line h n =
     let k : kind_of text ≡ opening = joined_kind (codes "subckt") rest all in
     read_by line text opening (codes ".subckt" ∷ rest) [] (subckt h) k (joined_fields (codes ".subckt") rest all) refl n refl (omega arith) refl (free_joined (codes ".subckt" ∷ rest) all) (omega arith) refl
 
-global_again : (line : ℕ) (names : List (List ℕ)) → AllByRecursion IsName names → read_card (record { line = line; text = printed (global names) }) ≡ Ok (global names)
+global_again : (line : ℕ) (names : List (List ℕ)) → AllByRecursion IsName names → IsReadAgain line (global names)
 unfolding NoEqual
 global_again line names n =
     let all : AllByRecursion IsName (codes ".global" ∷ names) = (global_name, n) in
     let text = join_with_byte 32 (codes ".global" ∷ names) in
     read_by line text globals (codes ".global" ∷ names) [] (global names) (joined_kind (codes "global") names all) (joined_fields (codes ".global") names all) refl n refl (omega arith) refl refl (omega arith) refl
 
-ends_again : (line : ℕ) (name : Option (List ℕ)) → AllByRecursion IsName (option_to_list name) → read_card (record { line = line; text = printed (ends name) }) ≡ Ok (ends name)
+ends_again : (line : ℕ) (name : Option (List ℕ)) → AllByRecursion IsName (option_to_list name) → IsReadAgain line (ends name)
 unfolding NoEqual
 ends_again line None n = refl
 ends_again line (Some name) n =
@@ -140,16 +140,16 @@ small_first : (b : ℕ) (bs : List ℕ) → folded (b ∷ bs) ≡ b ∷ bs → f
 small_first b bs h = cc
 
 device_by : (line : ℕ) (name : List ℕ) (nodes : List (List ℕ)) (kind : Option (List ℕ)) (tail : List ℕ) → IsReadDevice (record { name = name; nodes = nodes; model = kind; tail = tail })
-    → read_card (record { line = line; text = printed (dev (record { name = name; nodes = nodes; model = kind; tail = tail })) }) ≡ Ok (dev (record { name = name; nodes = nodes; model = kind; tail = tail }))
+    → IsReadAgain line (dev (record { name = name; nodes = nodes; model = kind; tail = tail }))
 device_by line [] nodes kind tail h = absurd (let a = h.names.0.some in cc)
 device_by line (b ∷ bs) nodes kind tail h = device_again line b bs nodes kind tail (record { letter = λ dot. ap (by_byte (kinds dot)) (small_first b bs h.names.0.small) ∙ h.kind.letter dot; names = h.names; normal = h.normal; short = h.short })
 
 call_by : (line : ℕ) (name : List ℕ) (nodes : List (List ℕ)) (sub : List ℕ) → IsReadCall (record { name = name; nodes = nodes; sub = sub })
-    → read_card (record { line = line; text = printed (call (record { name = name; nodes = nodes; sub = sub })) }) ≡ Ok (call (record { name = name; nodes = nodes; sub = sub }))
+    → IsReadAgain line (call (record { name = name; nodes = nodes; sub = sub }))
 call_by line [] nodes sub h = absurd (let a = h.names.0.some in cc)
 call_by line (b ∷ bs) nodes sub h = call_again line b bs nodes sub (record { letter = λ dot. ap (by_byte (kinds dot)) (small_first b bs h.names.0.small) ∙ h.letter dot; names = h.names })
 
-card_by_kind : (line : ℕ) (c : Card) → IsRead c → read_card (record { line = line; text = printed c }) ≡ Ok c
+card_by_kind : (line : ℕ) (c : Card) → IsRead c → IsReadAgain line c
 card_by_kind line (dev d) h = device_by line d.name d.nodes d.model d.tail h
 card_by_kind line (call c) h = call_by line c.name c.nodes c.sub h
 card_by_kind line (model m) h = model_again line m h
@@ -160,5 +160,5 @@ card_by_kind line ended h = refl
 card_by_kind line (passed text) h = passed_again line text h
 
 -- a fine card that is printed is read again, on any line
-pub card_again : (line : ℕ) (c : Card) → IsFine c → read_card (record { line = line; text = printed c }) ≡ Ok c
+pub card_again : (line : ℕ) (c : Card) → IsFine c → IsReadAgain line c
 card_again line c h = card_by_kind line c h.is_read

@@ -2,9 +2,9 @@
 use Rattle.std.proofs.Common.{◌≡◌, ℕ, List, [], ◌∷◌, map, true, false, refl, sym, ap, ◌∙◌, subst, codes}
 use Rattle.std.specs.List.{AllByRecursion}
 use Rattle.gl_text.specs.Cards.{Model, global, model, passed}
-use Rattle.gl_text.specs.Decks.{Body, dev_at, call_at, Sub, Deck, has_twice, is_in, deck_text}
+use Rattle.gl_text.specs.Decks.{Body, dev_at, call_at, Sub, Deck, has_twice, is_in, deck_text, body_name}
 use Rattle.gl_printed.specs.ReadCards.{IsFine}
-use Rattle.gl_printed.specs.ReadDecks.{body_card, body_name, IsTitle, AllDiffer, FindsSub, FindsSubWithin, IsReadSub, IsReadDeck, unnumbered_body, unnumbered_sub, unnumbered, ReadsBack}
+use Rattle.gl_printed.specs.ReadDecks.{body_card, IsTitle, AllDiffer, FindsSub, FindsSubWithin, IsReadSub, IsReadDeck, unnumbered_body, unnumbered_sub, unnumbered, ReadsBack}
 use Rattle.gl_lists.proofs.Each.{each_map, each_to, each_unmap}
 use Rattle.gl_printed.proofs.Renumbered.{Same, same_call}
 use Rattle.gl_printed.proofs.ReadDeckLaws.{read_fine}

@@ -2,8 +2,8 @@
 use Rattle.std.proofs.Common.{◌≡◌, ◌≤◌, ◌<◌, ◌+◌, ℕ, List, [], ◌∷◌, ◌++◌, map, cond, eqb, true, false, Bool, Option, Some, None, refl, ap, ◌∙◌, subst, arith, append-nil, filter_map, flat_map, ne_eqb, eq-eqb, eqb-true}
 use Rattle.std.specs.List.{AllByRecursion, cons_option}
 use Rattle.gl_text.specs.Cards.{Card, Model, model, ends, global, ended, passed}
-use Rattle.gl_text.specs.Decks.{Body, dev_at, call_at, Sub, Deck, Scope, Placed, top_scope, scope_after, body_of, sub_of, has_twice, bodies}
-use Rattle.gl_printed.specs.ReadDecks.{body_card, body_name, AllDiffer, sub_cards, unnumbered_body, unnumbered_sub}
+use Rattle.gl_text.specs.Decks.{Body, dev_at, call_at, Sub, Deck, Scope, Placed, top_scope, scope_after, body_of, sub_of, has_twice, bodies, body_name}
+use Rattle.gl_printed.specs.ReadDecks.{body_card, AllDiffer, sub_cards, unnumbered_body, unnumbered_sub}
 use Rattle.gl_printed.proofs.DeckCards.{all_cards}
 use Rattle.gl_printed.proofs.DistinctNames.{body_in}
 use Rattle.gl_printed.proofs.PlacedCards.{Quiet, body_quiet, inside, past, past_le, placed, placing, sub_split}

@@ -3,8 +3,8 @@ use Rattle.std.proofs.Common.{◌≡◌, ◌≤◌, ℕ, List, [], ◌∷◌, ma
 use Rattle.std.specs.Prelude.{◌&&◌}
 use Rattle.std.specs.List.{AllByRecursion}
 use Rattle.gl_text.specs.Cards.{model, subckt, ends, global, passed}
-use Rattle.gl_text.specs.Decks.{Body, dev_at, call_at, Sub, Deck, Scope, top_scope, is_inside, has_twice, call_fault}
-use Rattle.gl_printed.specs.ReadDecks.{body_card, body_name, AllDiffer, FindsSub, FindsSubWithin, IsReadSub, IsReadDeck}
+use Rattle.gl_text.specs.Decks.{Body, dev_at, call_at, Sub, Deck, Scope, top_scope, is_inside, has_twice, call_fault, body_name}
+use Rattle.gl_printed.specs.ReadDecks.{body_card, AllDiffer, FindsSub, FindsSubWithin, IsReadSub, IsReadDeck}
 use Rattle.gl_lists.proofs.Each.{each_to, each_true}
 use Rattle.gl_printed.proofs.DeckCards.{all_cards}
 use Rattle.gl_printed.proofs.DistinctNames.{NamesDiffer, head_name, model_name}

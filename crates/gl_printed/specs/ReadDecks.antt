@@ -5,6 +5,7 @@ use Rattle.gl_text.specs.LogicalLines.{LINE, Fault, trim_end}
 use Rattle.gl_text.specs.Cards.{Call, Card, dev, call, model, subckt, ends, global, passed}
 use Rattle.gl_fault.specs.Refusals.{◌>>=◌}
 use Rattle.gl_text.specs.Decks.{Body, dev_at, call_at, Sub, Deck, is_in, has_twice, find_sub, reaches, read_deck, deck_text}
+pub use Rattle.gl_text.specs.Decks.{body_name}
 use Rattle.gl_text.specs.WayBack.{IsOneLine}
 use Rattle.gl_printed.specs.ReadCards.{IsFine}
 
@@ -12,11 +13,6 @@ use Rattle.gl_printed.specs.ReadCards.{IsFine}
 abbrev pub body_card : Body → Card
 body_card (dev_at line d) = dev d
 body_card (call_at line c) = call c
-
--- the name of a device or an X card
-abbrev pub body_name : Body → List ℕ
-body_name (dev_at line d) = d.name
-body_name (call_at line c) = c.name
 
 -- ---- what is known of a deck that was read
 

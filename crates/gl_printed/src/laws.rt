@@ -4,7 +4,7 @@ ghost use Rattle.gl_text.specs.LogicalLines.{LINE, Line, logical_lines};
 ghost use Rattle.gl_text.specs.Cards.{Card, ended, printed, read_card};
 ghost use Rattle.gl_text.specs.Decks.{Deck, deck_text, line_of, read_deck};
 ghost use Rattle.gl_text.specs.Flattening.{Flat, flat_job, flat_of, flat_text, flatten};
-ghost use Rattle.gl_text.specs.WayBack.{IsOneLine};
+ghost use Rattle.gl_text.specs.WayBack.{IsOneLine, IsReadAgain};
 ghost use Rattle.gl_printed.specs.ReadCards.{IsFine};
 ghost use Rattle.gl_printed.specs.ReadDecks.{IsReadDeck, ReadsBack, cards_of, reprinted, unnumbered};
 ghost use Rattle.gl_printed.specs.FlatDecks.{AreRails, FlatReadsBack, deck_of};
@@ -19,13 +19,15 @@ pub fn read_cards_are_fine()
 /// A fine card that is printed is read again, on any line.
 pub fn fine_cards_are_read()
     ensures are_read { (line : ℕ) (c : Card)
-        → IsFine c → read_card (record { line = line; text = printed c }) ≡ Ok c }
+        → IsFine c → IsReadAgain line c }
 {}
 
 /// Fine cards, printed with `.end` behind them, are logical lines in their order, each on its own line.
 pub fn printed_cards_are_lines()
-    ensures are_lines { (n : ℕ) (cards : List Card) → AllByRecursion IsFine cards → AllByRecursion (λ c. is_end c ≡ false) cards
-        → logical_lines n (flat_map line_of (cards ++ ended ∷ [])) ≡ map Ok (numbered n (cards ++ ended ∷ [])) }
+    ensures are_lines { (n : ℕ) (cards : List Card)
+        → AllByRecursion IsFine cards → AllByRecursion (λ c. is_end c ≡ false) cards
+        → logical_lines n (flat_map line_of (cards ++ ended ∷ []))
+        ≡ map Ok (numbered n (cards ++ ended ∷ [])) }
 {}
 
 /// A printed deck is its title, and then its cards, printed with `.end` behind them.
@@ -69,14 +71,17 @@ pub fn printed_texts_stay()
 
 /// Decks that are the same, line numbers aside, flatten alike.
 pub fn flattening_sees_no_line_numbers()
-    ensures alike { (deck other : Deck) (rails : List (List ℕ)) (top : Option (List ℕ)) (flat : Flat)
-        → unnumbered deck ≡ unnumbered other → flatten deck rails top ≡ Ok flat → flatten other rails top ≡ Ok flat }
+    ensures alike { (deck other : Deck) (rails : List (List ℕ)) (top : Option (List ℕ))
+        (flat : Flat)
+        → unnumbered deck ≡ unnumbered other → flatten deck rails top ≡ Ok flat
+        → flatten other rails top ≡ Ok flat }
 {}
 
 /// A printed deck flattens to the text to which the deck that it was printed from flattens.
 pub fn printed_texts_flatten_alike()
     ensures alike { (top : Option (List ℕ)) (bytes text flat : List ℕ)
-        → reprinted true bytes ≡ Ok text → flat_job top bytes ≡ Ok flat → flat_job top text ≡ Ok flat }
+        → reprinted true bytes ≡ Ok text → flat_job top bytes ≡ Ok flat
+        → flat_job top text ≡ Ok flat }
 {}
 
 /// The text of a flat deck is that of a printed deck.
@@ -87,7 +92,8 @@ pub fn flat_texts_are_printed_decks()
 /// The flat deck of a deck as it is read, with such rails, is again a deck as it is read.
 pub fn flat_decks_are_fine()
     ensures are_fine { (deck : Deck) (rails : List (List ℕ)) (top : Option (List ℕ)) (flat : Flat)
-        → IsReadDeck deck → AreRails rails → flatten deck rails top ≡ Ok flat → IsReadDeck (deck_of flat) }
+        → IsReadDeck deck → AreRails rails → flatten deck rails top ≡ Ok flat
+        → IsReadDeck (deck_of flat) }
 {}
 
 /// The text of a flat deck reads back.

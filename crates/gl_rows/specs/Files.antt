@@ -1,12 +1,13 @@
 -- The report of the files of a deck and a library, computed by trying all maps: on small rows, what the definitions of a round say can be read off.
-use Rattle.std.specs.Prelude.{◌≡◌, not, ℕ, ◌&&◌, Bool, true, List, length, map, ◌++◌, IsOkAnd, codes}
+use Rattle.std.specs.Prelude.{◌≡◌, not, ℕ, ◌&&◌, Bool, true, List, length, map, IsOkAnd, Some}
 use Rattle.std.specs.List.{list_any}
 use Rattle.gl_text.specs.Decks.{Sub, Deck, read_deck}
-use Rattle.gl_text.specs.Flattening.{Flat}
+use Rattle.gl_text.specs.Flattening.{Flat, flatten}
 use Rattle.gl_match.specs.LegalTests.{all_zip}
 use Rattle.gl_match.specs.Listing.{Instance}
 use Rattle.gl_match.specs.Choice.{sets_of}
 use Rattle.gl_match.specs.Picks.{picks_of}
+use Rattle.gl_base.specs.Rails.{run_rails}
 use Rattle.gl_base.specs.Libraries.{Library, read_library}
 use Rattle.gl_base.specs.BaseCircuit.{Source, circuit_of}
 use Rattle.gl_base.specs.Stems.{names_in, stands_in, stem_of}
@@ -50,34 +51,11 @@ Reads deck library Told = IsOkAnd (read_deck true deck) (λ (d : Deck). IsOkAnd 
 abbrev pub Accepted : List ℕ → List ℕ → (Flat → Library → Type 0) → Type 0
 Accepted deck library Told = Reads deck library (λ d l. IsOkAnd (flat_deck d l) (λ (f : Flat). Told f l))
 
+-- the same of a subcircuit that is the top
+abbrev pub AcceptedTop : List ℕ → List ℕ → List ℕ → (Flat → Library → Type 0) → Type 0
+AcceptedTop top deck library Told =
+    Reads deck library (λ d l. IsOkAnd (flatten d (run_rails d.globals l.deck.globals) (Some top)) (λ (f : Flat). Told f l))
+
 -- the report of a deck and a library has this text
 abbrev pub Reported : List ℕ → List ℕ → List ℕ → Type 0
 Reported deck library text = Accepted deck library (λ f l. (report_of f l ≡ text) × (is_checked f l ≡ true))
-
--- ---- texts
-
-abbrev pub models : List ℕ
-models = codes ".global vdd\n.model nch nmos\n.model pch pmos\n"
-
-abbrev pub inverter : List ℕ
-inverter = codes ".subckt inv a y\nmp y a vdd vdd pch\nmn y a 0 0 nch\n.ends\n"
-
-abbrev pub nand : List ℕ
-nand = codes ".subckt nand2 a b y\nmp1 y a vdd vdd pch\nmp2 y b vdd vdd pch\nmn1 y a x 0 nch\nmn2 x b 0 0 nch\n.ends\n"
-
-abbrev pub pass_gate : List ℕ
-pass_gate = codes ".subckt tg p q c cb\nmn p c q 0 nch\nmp p cb q vdd pch\n.ends\n"
-
-abbrev pub parallel : List ℕ
-parallel = codes ".subckt par p q\nra p q\nrb p q\n.ends\n"
-
-abbrev pub vdd_rail : List ℕ
-vdd_rail = codes ".global vdd\n"
-
--- a deck of one NAND, whose inner net is `x`
-abbrev pub nand_deck : List ℕ
-nand_deck = codes "n\n" ++ models ++ codes "m1 y a vdd vdd pch\nm2 y b vdd vdd pch\nm3 y a x 0 nch\nm4 x b 0 0 nch\n"
-
--- a deck of two resistors, whose global `w` stands on no device
-abbrev pub resistor_deck : List ℕ
-resistor_deck = codes "t\n.global w\nr1 a b 1\nr2 b 0 1\n"

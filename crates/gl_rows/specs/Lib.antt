@@ -1,3 +1,5 @@
 pub mod Sources
 pub mod Files
+pub mod Texts
 pub mod WorkedDecks
+pub mod LiftRows

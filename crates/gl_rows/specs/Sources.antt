@@ -1,7 +1,8 @@
 -- Decks and cells on which the definitions are computed.
-use Rattle.std.specs.Prelude.{ℕ, List, [], ◌∷◌, map, Some, None, codes}
+use Rattle.std.specs.Prelude.{ℕ, List, [], ◌∷◌, map, Some, None, codes, replicate}
 use Rattle.gl_text.specs.Cards.{Device as Card, Model, Head}
-use Rattle.gl_text.specs.Decks.{Body, dev_at, Sub}
+use Rattle.gl_text.specs.Decks.{Body, dev_at, Sub, Deck}
+use Rattle.gl_match.specs.Graph.{Device}
 use Rattle.gl_match.specs.Listing.{Instance}
 use Rattle.gl_base.specs.Libraries.{Library, loose}
 use Rattle.gl_base.specs.BaseCircuit.{Source}
@@ -26,6 +27,7 @@ both_models = model (codes "nch") (codes "nmos") ∷ model (codes "pch") (codes 
 abbrev pub inverter_head : Head
 inverter_head = record { name = codes "inv"; ports = codes "a" ∷ codes "y" ∷ [] }
 
+-- its cards
 abbrev pub inverter_cell : List Card
 inverter_cell = transistor (codes "mp") (codes "y") (codes "a") (codes "vdd") (codes "vdd") (codes "pch")
     ∷ transistor (codes "mn") (codes "y") (codes "a") (codes "0") (codes "0") (codes "nch") ∷ []
@@ -46,6 +48,7 @@ one_inverter = record {
 abbrev pub pass_gate_head : Head
 pass_gate_head = record { name = codes "tg"; ports = codes "p" ∷ codes "q" ∷ codes "c" ∷ codes "cb" ∷ [] }
 
+-- its cards
 abbrev pub pass_gate_cell : List Card
 pass_gate_cell = transistor (codes "mn") (codes "p") (codes "c") (codes "q") (codes "0") (codes "nch")
     ∷ transistor (codes "mp") (codes "p") (codes "cb") (codes "q") (codes "vdd") (codes "pch") ∷ []
@@ -66,6 +69,7 @@ one_pass_gate = record {
 abbrev pub mixed_head : Head
 mixed_head = record { name = codes "r"; ports = codes "vdd" ∷ codes "p" ∷ [] }
 
+-- its cards
 abbrev pub mixed_cell : List Card
 mixed_cell = transistor (codes "m1") (codes "vdd") (codes "p") (codes "w") (codes "n") (codes "nch")
     ∷ transistor (codes "m2") (codes "vdd") (codes "p") (codes "w") (codes "n") (codes "nmos")
@@ -88,25 +92,50 @@ mixed = record {
 abbrev pub cards_at_one : List Card → List Body
 cards_at_one devices = map (λ d. dev_at 1 d) devices
 
+-- the inverter as a cell
 abbrev pub inverter_sub : Sub
 inverter_sub = record { line = 1; head = inverter_head; cards = cards_at_one inverter_cell }
 
+-- the pass gate as a cell
 abbrev pub pass_gate_sub : Sub
 pass_gate_sub = record { line = 1; head = pass_gate_head; cards = cards_at_one pass_gate_cell }
 
--- a cell without cards, and one with a port on no card
+-- a cell without cards
 abbrev pub empty_sub : Sub
 empty_sub = record { line = 1; head = record { name = codes "fill"; ports = [] }; cards = [] }
 
+-- a cell with a port on no card
 abbrev pub loose_sub : Sub
 loose_sub = record { line = 1; head = record { name = codes "odd"; ports = codes "a" ∷ codes "b" ∷ [] }; cards = cards_at_one (resistor (codes "r1") (codes "a") (codes "0") ∷ []) }
+
+-- a library of these cells alone
+abbrev pub cells_alone : List Sub → Deck
+cells_alone subs = record { title = []; globals = []; models = []; subs = subs; top = []; passed = [] }
 
 -- an inverter, a cell that is skipped, and one of a higher level
 abbrev pub small_library : Library
 small_library = record {
-  deck = record { title = []; globals = []; models = []; subs = inverter_sub ∷ loose_sub ∷ pass_gate_sub ∷ []; top = []; passed = [] };
+  deck = cells_alone (inverter_sub ∷ loose_sub ∷ pass_gate_sub ∷ []);
   cells = record { level = 0; skip = None } ∷ record { level = 0; skip = Some (loose (codes "b")) } ∷ record { level = 1; skip = None } ∷ [];
 }
+
+-- a cell with so many ports and so many cards
+abbrev pub sized_cell : List ℕ → ℕ → ℕ → Sub
+sized_cell name ports cards = record {
+  line = 1;
+  head = record { name = name; ports = replicate ports (codes "a") };
+  cards = replicate cards (dev_at 2 (resistor (codes "r1") (codes "a") (codes "0")));
+}
+
+-- ---- circuits and lists
+
+-- the devices of an inverter, in the circuit of its deck and in its pattern
+abbrev pub inverter_devices : List Device
+inverter_devices = record { kind = 0; nets = 0 ∷ 1 ∷ 2 ∷ 2 ∷ [] } ∷ record { kind = 1; nets = 0 ∷ 1 ∷ 3 ∷ 3 ∷ [] } ∷ []
+
+-- the same of a pass gate
+abbrev pub pass_gate_devices : List Device
+pass_gate_devices = record { kind = 0; nets = 0 ∷ 1 ∷ 2 ∷ 3 ∷ [] } ∷ record { kind = 1; nets = 0 ∷ 4 ∷ 2 ∷ 5 ∷ [] } ∷ []
 
 -- a pass gate on devices 0 and 1, both ways
 abbrev pub pass_gate_twice : List Instance

@@ -1,8 +1,10 @@
-//! Worked rows: texts, decks, circuits, rounds and reports on which the definitions are computed and compared with values worked out by hand.
+//! Worked rows: texts, decks, circuits, rounds, reports and what is lifted, on which the definitions are computed and compared with values worked out by hand.
 #![tactic(auto)]
 
 mod circuits;
 mod keeping;
+mod lifting;
+mod linked;
 mod matching;
 mod printed;
 mod reports;
@@ -11,6 +13,14 @@ mod texts;
 
 pub use circuits::{classes_of_places, inverter_rows, mixed_rows, pass_gate_rows, rail_rows};
 pub use keeping::{kept_net_rows, unknown_keep_rows};
+pub use lifting::{
+    kept_nets_are_not_inner, maps_are_refused, names_have_a_limit, one_cell_is_lifted,
+    one_of_overlapping_is_chosen, skipped_cells_are_told, stem_is_free, top_is_lifted,
+    turns_are_undone, two_levels_are_lifted,
+};
+pub use linked::{
+    links_hold_on_rows, origins_are_told_on_rows, tried_lists_are_complete, variants_are_shared,
+};
 pub use matching::{orders, picks_compute, places_and_devices, turned_nets, turns_compute};
 pub use printed::{a_deck_without_a_title, a_nested_deck, flat_decks, worked_texts};
 pub use reports::{

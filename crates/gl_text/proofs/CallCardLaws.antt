@@ -1,13 +1,13 @@
 -- A printed X card is read again.
-use Rattle.std.proofs.Common.{◌≡◌, ℕ, List, [], ◌∷◌, ◌++◌, length, eqb, ltb, false, None, Ok, refl, sym, ap, ◌∙◌, arith}
+use Rattle.std.proofs.Common.{◌≡◌, ℕ, List, [], ◌∷◌, ◌++◌, length, eqb, ltb, false, None, refl, sym, ap, ◌∙◌, arith}
 use Rattle.std.specs.Prelude.{◌&&◌, ◌||◌}
 use Rattle.std.specs.List.{AllByRecursion, join_with_byte, list_any}
 use Rattle.std.proofs.lemmas.List.{append-nil, length-append}
 use Rattle.std.proofs.lemmas.Bool.{le-ltb, or_parts}
 use Rattle.gl_text.specs.LogicalLines.{parameters, Line, is_blank, is_separator, fields_of}
-use Rattle.gl_text.specs.WayBack.{IsName, IsCall}
+use Rattle.gl_text.specs.WayBack.{IsName, IsCall, IsReadAgain}
 use Rattle.gl_fault.specs.Refusals.{when}
-use Rattle.gl_text.specs.Cards.{call, caller, kind_of, card_of, card_by, read_card, printed, names_of, tail_at, all_fields, no_card, no_card_by, has_parameters, has_nodes, has_long_tail, tail_fault, but_last, last_name}
+use Rattle.gl_text.specs.Cards.{call, caller, kind_of, card_of, card_by, names_of, tail_at, all_fields, no_card, no_card_by, has_parameters, has_nodes, has_long_tail, tail_fault, but_last, last_name}
 use Rattle.gl_text.proofs.CardLaws.{names_are, short_names, all_none, kind_is}
 
 abbrev NoEqual : List ℕ → Type 0
@@ -46,7 +46,7 @@ enough x n ns = le-ltb (length (n ∷ ns ++ x ∷ [])) 2 (rw length-append (omeg
 
 -- an X card that is printed is read again
 pub call_again : (line b : ℕ) (bs : List ℕ) (nodes : List (List ℕ)) (sub : List ℕ) → IsCall b bs nodes sub
-    → read_card (record { line = line; text = printed (call (record { name = b ∷ bs; nodes = nodes; sub = sub })) }) ≡ Ok (call (record { name = b ∷ bs; nodes = nodes; sub = sub }))
+    → IsReadAgain line (call (record { name = b ∷ bs; nodes = nodes; sub = sub }))
 call_again line b bs nodes sub h =
     let rest = nodes ++ sub ∷ [] in
     let ns = (b ∷ bs) ∷ rest in

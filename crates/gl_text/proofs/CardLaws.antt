@@ -6,9 +6,9 @@ use Rattle.std.proofs.Math.Seq.{take-append_seam}
 use Rattle.std.proofs.lemmas.List.{append-nil, length-append}
 use Rattle.std.proofs.lemmas.Bool.{le-ltb}
 use Rattle.gl_text.specs.LogicalLines.{NAME, TAIL, Fault, long_name, long_tail, parameters, first_field, Line, Piece, is_separator, onto, pieces_of, is_field, fields_of, folded, fold_byte, tail_of}
-use Rattle.gl_text.specs.WayBack.{IsName, IsDevice}
+use Rattle.gl_text.specs.WayBack.{IsName, IsDevice, IsReadAgain}
 use Rattle.gl_fault.specs.Refusals.{first_some, when, or_else}
-use Rattle.gl_text.specs.Cards.{Card, dev, Kind, device, kinds, by_byte, kind_of, word_in, dot_words, behind, card_of, card_by, read_card, with_tail, printed, names_of, tail_at, front, all_fields, spaced, no_card, no_card_by, has_parameters, has_nodes, has_long_tail, tail_fault}
+use Rattle.gl_text.specs.Cards.{Card, dev, Kind, device, kinds, by_byte, kind_of, word_in, dot_words, behind, card_of, card_by, with_tail, names_of, tail_at, front, all_fields, spaced, no_card, no_card_by, has_parameters, has_nodes, has_long_tail, tail_fault}
 
 -- ---- names
 
@@ -91,7 +91,7 @@ kind_is b bs (m ∷ ms) tail kind h = h (word_in dot_words (first_field (with_ta
 
 -- a device that is printed is read again
 pub device_again : (line b : ℕ) (bs : List ℕ) (nodes : List (List ℕ)) (model : Option (List ℕ)) (tail : List ℕ) → IsDevice b bs nodes model tail
-    → read_card (record { line = line; text = printed (dev (record { name = b ∷ bs; nodes = nodes; model = model; tail = tail })) }) ≡ Ok (dev (record { name = b ∷ bs; nodes = nodes; model = model; tail = tail }))
+    → IsReadAgain line (dev (record { name = b ∷ bs; nodes = nodes; model = model; tail = tail }))
 device_again line b bs nodes model tail h =
     let rest = nodes ++ option_to_list model in
     let ns = (b ∷ bs) ∷ rest in

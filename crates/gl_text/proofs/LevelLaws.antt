@@ -1,8 +1,8 @@
 -- Where each X card goes down by a number of the subcircuits, none is recursive.
-use Rattle.std.proofs.Common.{◌≡◌, ◌≤◌, ◌<◌, ℕ, zero, suc, List, [], ◌∷◌, ◌++◌, length, map, cond, eqb, true, false, Bool, refl, arith, inl, inr}
-use Rattle.std.specs.Prelude.{◌||◌, ◌&&◌, filter, flat_map}
+use Rattle.std.proofs.Common.{◌≡◌, ◌≤◌, ◌<◌, ℕ, zero, suc, List, [], ◌∷◌, ◌++◌, length, map, cond, true, false, Bool, refl, arith, inl, inr}
+use Rattle.std.specs.Prelude.{◌||◌, filter, flat_map}
 use Rattle.std.specs.List.{AllByRecursion, list_any}
-use Rattle.std.proofs.lemmas.Bool.{eqb-true, cases_Bool}
+use Rattle.std.proofs.lemmas.Bool.{cases_Bool}
 use Rattle.gl_text.specs.LogicalLines.{same_text}
 use Rattle.gl_text.specs.Levels.{Down}
 use Rattle.gl_text.specs.Decks.{Sub, callees, is_in, step, steps, reaches}

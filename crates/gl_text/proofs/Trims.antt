@@ -1,5 +1,5 @@
 -- What is trimmed or squeezed is no longer than it was.
-use Rattle.std.proofs.Common.{◌≡◌, ◌≤◌, ℕ, suc, List, [], ◌∷◌, length, cond, eqb, true, false, Bool, refl, arith}
+use Rattle.std.proofs.Common.{◌≤◌, ℕ, suc, List, [], ◌∷◌, length, cond, eqb, true, false, Bool, arith}
 use Rattle.gl_text.specs.LogicalLines.{is_blank, is_loose, put_back, trim_end, trim_front, squeeze, squeezed, tail_of}
 
 pub front_shorter : (p : ℕ → Bool) (xs : List ℕ) → length (trim_front p xs) ≤ length xs

@@ -1,5 +1,5 @@
 -- One card.
-use Rattle.std.specs.Prelude.{◌≡◌, ℕ, zero, suc, ◌==◌, ◌&&◌, nat_lt, Bool, true, false, List, [], ◌∷◌, ◌++◌, length, take, drop, map, Option, Some, None, Result, Ok, Err, codes, slice_get, option_to_list, if◌then◌else◌}
+use Rattle.std.specs.Prelude.{◌≡◌, ℕ, zero, suc, ◌==◌, ◌&&◌, nat_lt, Bool, true, false, List, [], ◌∷◌, ◌++◌, length, take, drop, map, Option, Some, None, Result, codes, slice_get, option_to_list, if◌then◌else◌}
 use Rattle.std.specs.List.{join_with_byte, list_any}
 use Rattle.gl_fault.specs.Refusals.{first_some, when, or_else}
 use Rattle.gl_text.specs.LogicalLines.{NAME, TAIL, Fault, long_name, unknown_card, short_card, control_block, parameters, long_tail, Piece, fields_of, first_field, fold_byte, folded, is_blank, trim_end, tail_of, same_text, Line}

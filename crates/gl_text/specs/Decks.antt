@@ -10,6 +10,11 @@ pub data Body : Type 0 where
   dev_at : ℕ → Device → Body
   call_at : ℕ → Call → Body
 
+-- the name of a device or an X card
+abbrev pub body_name : Body → List ℕ
+body_name (dev_at line d) = d.name
+body_name (call_at line c) = c.name
+
 -- a subcircuit: the line of its `.subckt`, its name and ports, its cards
 pub record Sub : Type 0 where
   pub line : ℕ

@@ -1,8 +1,8 @@
 -- Names and devices that were read.
-use Rattle.std.specs.Prelude.{◌≡◌, ◌≤◌, ◌==◌, ℕ, List, [], ◌∷◌, ◌++◌, length, Option, nat_lt, true, false, option_to_list}
+use Rattle.std.specs.Prelude.{◌≡◌, ◌≤◌, ◌==◌, ℕ, List, [], ◌∷◌, ◌++◌, length, Option, nat_lt, true, false, option_to_list, Ok}
 use Rattle.std.specs.List.{AllByRecursion}
 use Rattle.gl_text.specs.LogicalLines.{NAME, TAIL, is_separator, folded, fold_byte, tail_of}
-use Rattle.gl_text.specs.Cards.{Kind, caller, device, kinds, by_byte}
+use Rattle.gl_text.specs.Cards.{Card, Kind, caller, device, kinds, by_byte, read_card, printed}
 
 -- a text holds no newline
 abbrev pub IsOneLine : List ℕ → Type 0
@@ -15,6 +15,10 @@ pub record IsName (bytes : List ℕ) : Type 0 where
   pub plain : AllByRecursion (λ b. is_separator b ≡ false) bytes
   pub small : folded bytes ≡ bytes
   pub short : length bytes ≤ NAME
+
+-- a card that is printed is read again, on this line
+abbrev pub IsReadAgain : ℕ → Card → Type 0
+IsReadAgain line c = read_card (record { line = line; text = printed c }) ≡ Ok c
 
 -- what a device is that was read
 pub record IsDevice (b : ℕ) (bs : List ℕ) (nodes : List (List ℕ)) (model : Option (List ℕ)) (tail : List ℕ) : Type 0 where

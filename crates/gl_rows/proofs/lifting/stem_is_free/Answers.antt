@@ -1,0 +1,8 @@
+-- The numbers are printed.
+use Rattle.std.proofs.Common.{refl}
+use Rattle.std.specs.Fmt.{digits}
+use Rattle.gl_rows.proofs.lifting.stem_is_free.Goals as goal
+
+pub returns : goal.returns
+unfolding digits
+returns c = record { two_underscores = refl }
