@@ -80,7 +80,8 @@ impl DevCard {
     /// The device with these names, its own first, then its nodes', then its model's if it has one. There is none where
     /// its name begins with no letter of a device.
     pub fn of(names: Vec<Name>, tail: Tail) -> Option<DevCard>
-        ensures device { MatchOption result (¬ (IsLetter (first_byte (first_or [] names.items)))) (λ d. d ≡ device_by names.items tail) }
+        ensures device { MatchOption result (¬ (IsLetter (first_byte (first_or [] names.items))))
+            (λ d. d ≡ device_by names.items tail) }
     {
         letter_in(first_of(&names))?;
         Some(DevCard { names, tail })

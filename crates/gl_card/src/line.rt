@@ -35,7 +35,8 @@ impl<'a> Parts<'a> {
 
 /// A space and a word, if there is a word.
 fn put_word(line: &mut Vec<u8>, word: Option<&Name>) -> Result<(), AllocError>
-    ensures put { OnOk result (line.new.items ≡ line.old.items ++ spaced_all (option_to_list (option_copied word.entry))) }
+    ensures put { OnOk result
+        (line.new.items ≡ line.old.items ++ spaced_all (option_to_list (option_copied word.entry))) }
     ensures front { take (length line.old.items) line.new.items ≡ line.old.items }
 {
     if let Some(word) = word {
@@ -83,7 +84,8 @@ fn put_line(line: &mut Vec<u8>, parts: &Parts<'_>) -> Result<(), AllocError>
 
 /// Appends the line with these parts, or nothing.
 pub fn print_line(out: &mut Vec<u8>, parts: &Parts<'_>) -> Result<(), Memory>
-    ensures printed { out.new.items ≡ (if is_ok result then out.old.items ++ line_of parts.now else out.old.items) }
+    ensures printed { out.new.items
+        ≡ (if is_ok result then out.old.items ++ line_of parts.now else out.old.items) }
 {
     let start = out.len();
     if put_line(out, parts).is_err() {

@@ -21,7 +21,8 @@ fn device(
 ) -> Result<DevCard, AllocError>
     requires enough { count_of letter ≤ length fields.now }
     requires lettered { cards.first_byte (cards.first_or [] (shown fields.now)) ≡ byte_of letter }
-    ensures card { IfOk result (λ d. cards.dev d ≡ card_from (kind_value (kinds.Device letter)) fields.now text.now) }
+    ensures card { IfOk result
+        (λ d. cards.dev d ≡ card_from (kind_value (kinds.Device letter)) fields.now text.now) }
 {
     Ok(DevCard {
         names: names(alloc, front(fields, letter.fields()))?,
@@ -42,7 +43,8 @@ fn call(alloc: Global, text: &[u8], fields: &[Field<'_>]) -> Result<CallCard, Al
 /// The model with these fields.
 fn model(alloc: Global, text: &[u8], fields: &[Field<'_>]) -> Result<ModelCard, AllocError>
     requires enough { 3 ≤ length fields.now }
-    ensures card { IfOk result (λ m. cards.model m ≡ card_from cards.modelling fields.now text.now) }
+    ensures card { IfOk result
+        (λ m. cards.model m ≡ card_from cards.modelling fields.now text.now) }
 {
     let named = behind(front(fields, 3), 1);
     Ok(ModelCard {
@@ -73,7 +75,8 @@ pub fn make(
 ) -> Result<Card, AllocError>
     requires enough { cards.needs (kind_value kind) ≤ length fields.now }
     requires lettered { IsLetteredField kind fields.now }
-    ensures card { IfOk result (λ c. card_value c ≡ card_from (kind_value kind) fields.now text.now) }
+    ensures card { IfOk result
+        (λ c. card_value c ≡ card_from (kind_value kind) fields.now text.now) }
 {
     match kind {
         Kind::Device(letter) => Ok(Card::Dev(device(alloc, letter, text, fields)?)),

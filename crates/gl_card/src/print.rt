@@ -79,7 +79,8 @@ fn parts(card: &Card) -> Parts<'_>
 impl DevCard {
     /// Appends the card's line, without a newline, as `Card::print` does.
     pub fn print(&self, out: &mut Vec<u8>) -> Result<(), Memory>
-        ensures printed { out.new.items ≡ (if is_ok result then out.old.items ++ printed (cards.dev self.now) else out.old.items) }
+        ensures printed { out.new.items
+            ≡ (if is_ok result then out.old.items ++ printed (cards.dev self.now) else out.old.items) }
     {
         print_line(out, &device_parts(self))
     }
@@ -88,7 +89,8 @@ impl DevCard {
 impl CallCard {
     /// Appends the card's line, without a newline, as `Card::print` does.
     pub fn print(&self, out: &mut Vec<u8>) -> Result<(), Memory>
-        ensures printed { out.new.items ≡ (if is_ok result then out.old.items ++ printed (cards.call self.now) else out.old.items) }
+        ensures printed { out.new.items
+            ≡ (if is_ok result then out.old.items ++ printed (cards.call self.now) else out.old.items) }
     {
         print_line(out, &call_parts(self))
     }
@@ -97,7 +99,8 @@ impl CallCard {
 impl ModelCard {
     /// Appends the card's line, without a newline, as `Card::print` does.
     pub fn print(&self, out: &mut Vec<u8>) -> Result<(), Memory>
-        ensures printed { out.new.items ≡ (if is_ok result then out.old.items ++ printed (cards.model self.now) else out.old.items) }
+        ensures printed { out.new.items
+            ≡ (if is_ok result then out.old.items ++ printed (cards.model self.now) else out.old.items) }
     {
         print_line(out, &model_parts(self))
     }
@@ -106,7 +109,8 @@ impl ModelCard {
 impl Head {
     /// Appends the line of the `.subckt` card, without a newline, as `Card::print` does.
     pub fn print(&self, out: &mut Vec<u8>) -> Result<(), Memory>
-        ensures printed { out.new.items ≡ (if is_ok result then out.old.items ++ printed (cards.subckt self.now) else out.old.items) }
+        ensures printed { out.new.items
+            ≡ (if is_ok result then out.old.items ++ printed (cards.subckt self.now) else out.old.items) }
     {
         print_line(out, &head_parts(self))
     }
@@ -116,7 +120,8 @@ impl Card {
     /// Appends the card's line, without a newline: its fields with one space between each two, and the tail behind a
     /// space if it is not empty. Without memory for it nothing is appended.
     pub fn print(&self, out: &mut Vec<u8>) -> Result<(), Memory>
-        ensures printed { out.new.items ≡ (if is_ok result then out.old.items ++ printed (card_value self.now) else out.old.items) }
+        ensures printed { out.new.items
+            ≡ (if is_ok result then out.old.items ++ printed (card_value self.now) else out.old.items) }
     {
         print_line(out, &parts(self))
     }

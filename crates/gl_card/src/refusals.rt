@@ -32,7 +32,8 @@ fn long_name(line: u32, names: &[Field<'_>]) -> Option<CardFault>
 /// The first byte begins no card.
 fn unknown_card(line: u32, text: &[u8], kind: Kind) -> Option<CardFault>
     requires some { 0 < length text.now }
-    ensures unknown { Refuses result (when (cards.is_unknown (kind_value kind)) (lines.unknown_card line (cards.first_byte text.now))) }
+    ensures unknown { Refuses result
+        (when (cards.is_unknown (kind_value kind)) (lines.unknown_card line (cards.first_byte text.now))) }
 {
     match kind {
         Kind::Unknown => Some(CardFault::UnknownCard {
@@ -46,7 +47,8 @@ fn unknown_card(line: u32, text: &[u8], kind: Kind) -> Option<CardFault>
 /// There are too few fields.
 fn short_card(line: u32, kind: Kind, has: usize) -> Option<CardFault>
     requires few { has < 2 ^ 32 }
-    ensures short { Refuses result (when (nat_lt has (cards.needs (kind_value kind))) (lines.short_card line has (cards.needs (kind_value kind)))) }
+    ensures short { Refuses result (when (nat_lt has (cards.needs (kind_value kind)))
+        (lines.short_card line has (cards.needs (kind_value kind)))) }
 {
     let needs = kind.needs();
     if has < needs {
@@ -59,7 +61,8 @@ fn short_card(line: u32, kind: Kind, has: usize) -> Option<CardFault>
 
 /// A control block begins.
 fn control_block(line: u32, kind: Kind) -> Option<CardFault>
-    ensures control { Refuses result (when (cards.is_control (kind_value kind)) (lines.control_block line)) }
+    ensures control { Refuses result
+        (when (cards.is_control (kind_value kind)) (lines.control_block line)) }
 {
     match kind {
         Kind::Control => Some(CardFault::ControlBlock { line }),
@@ -71,7 +74,8 @@ fn control_block(line: u32, kind: Kind) -> Option<CardFault>
 pub fn no_card(line: u32, text: &[u8], kind: Kind, fields: &[Field<'_>]) -> Option<CardFault>
     requires some { 0 < length text.now }
     requires few { length fields.now < 2 ^ 32 }
-    ensures first { Refuses result (cards.no_card_by (record { line = line; text = text.now }) (kind_value kind) (shown fields.now)) }
+    ensures first { Refuses result
+        (cards.no_card_by (record { line = line; text = text.now }) (kind_value kind) (shown fields.now)) }
 {
     long_name(line, names_in(kind, fields))
         .or(unknown_card(line, text, kind))

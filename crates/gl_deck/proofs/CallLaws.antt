@@ -15,7 +15,7 @@ itself = nat_list_eq_equiv.refl
 pub flipped : (x y : List ℕ) → same_text x y ≡ same_text y x
 flipped = nat_list_eq_equiv.symm
 
-found_by : (n k m : List ℕ) (s : Sub) (o p : Option Sub) → k ≡ m → o ≡ p → cond (same_text n k) (Some s) o ≡ cond (same_text m n) (Some s) p
+pub found_by : (n k m : List ℕ) (s : Sub) (o p : Option Sub) → k ≡ m → o ≡ p → cond (same_text n k) (Some s) o ≡ cond (same_text m n) (Some s) p
 found_by n k m s o p e f = ap (λ j. cond (same_text n j) (Some s) o) e ∙ ap (λ b. cond b (Some s) o) (flipped n m) ∙ ap (λ q. cond (same_text m n) (Some s) q) f
 
 -- the table finds what the list has

@@ -1,31 +1,31 @@
 -- The subcircuits of a draft, and one that closes.
-use Rattle.std.proofs.Common.{◌≡◌, ◌<◌, ◌^◌, ℕ, List, length, Option, Some, None, refl, sym, ap, ◌∙◌, subst}
-use Rattle.std.specs.Map.{keys_of, values_of}
+use Rattle.std.proofs.Common.{◌≡◌, ◌<◌, ◌^◌, ℕ, List, length, Option, Some, None, All, sym, subst}
+use Rattle.std.specs.Map.{values_of}
 use Rattle.indexmap.specs.IndexMap.{insert_entry}
 use Rattle.gl_text.specs.LogicalLines.{same_text}
 use Rattle.gl_text.specs.Decks.{Sub}
-use Rattle.gl_deck.specs.Bodies.{names_of}
+use Rattle.gl_deck.specs.Bodies.{table_of}
+use Rattle.gl_deck.specs.Calls.{PortsFit}
 use Rattle.gl_deck.specs.Cards.{AreSubs}
-use Rattle.gl_deck.proofs.TableLaws.{keyed_more, all_more}
+use Rattle.gl_deck.proofs.TableLaws.{all_more, values_there}
 
--- a subcircuit stands under its name
-pub keyed : (subs : List (List ℕ × Sub)) (s : Sub) → keys_of subs ≡ names_of (values_of subs) → keys_of (insert_entry same_text subs s.head.name s) ≡ names_of (values_of (insert_entry same_text subs s.head.name s))
-keyed subs s h = keyed_more subs s.head.name s refl h
-
-closed_by : (old : List (List ℕ × Sub)) (s : Sub) → AreSubs (keys_of old) (values_of old) (Some s)
-    → AreSubs (keys_of (insert_entry same_text old s.head.name s)) (values_of (insert_entry same_text old s.head.name s)) None
-closed_by old s h = record {
-  keyed = keyed old s h.keyed;
-  fit = all_more (λ (t : Sub). length t.head.ports < 2 ^ 32) old s.head.name s h.current_fits h.fit;
-  current_fits = tt;
-}
+fit_more : (old new : List Sub) (s : Sub) → table_of new ≡ insert_entry same_text (table_of old) s.head.name s → length s.head.ports < 2 ^ 32 → PortsFit old → PortsFit new
+fit_more old new s e few h =
+    let P : List Sub → Type 0 = λ ss. All (λ (t : Sub). length t.head.ports < 2 ^ 32) ss in
+    let Q : List (List ℕ × Sub) → Type 0 = λ es. P (values_of es) in
+    let more = all_more (λ (t : Sub). length t.head.ports < 2 ^ 32) (table_of old) s.head.name s few (subst P (sym (values_there old)) h) in
+    subst P (values_there new) (subst Q (sym e) more)
 
 -- what was open goes into the table
-pub closed_after : (old new : List (List ℕ × Sub)) (name : List ℕ) (s : Sub) (was is : Option Sub) → new ≡ insert_entry same_text old name s → name ≡ s.head.name → was ≡ Some s → is ≡ None
-    → AreSubs (keys_of old) (values_of old) was → AreSubs (keys_of new) (values_of new) is
-closed_after old new name s was is e n was_e is_e h =
-    let same : new ≡ insert_entry same_text old s.head.name s = e ∙ ap (λ m. insert_entry same_text old m s) n in
-    let P : Option Sub → Type 0 = λ o. AreSubs (keys_of old) (values_of old) o in
-    let Q : List (List ℕ × Sub) → Type 0 = λ es. AreSubs (keys_of es) (values_of es) None in
-    let R : Option Sub → Type 0 = λ o. AreSubs (keys_of new) (values_of new) o in
-    subst R (sym is_e) (subst Q (sym same) (closed_by old s (subst P was_e h)))
+pub closed_after : (old new : List Sub) (s : Sub) (was is : Option Sub) → table_of new ≡ insert_entry same_text (table_of old) s.head.name s → was ≡ Some s → is ≡ None → AreSubs old was → AreSubs new is
+closed_after old new s (Some t) None e was is h =
+    let same : t ≡ s = cc in
+    let fits : length s.head.ports < 2 ^ 32 = subst (λ (u : Sub). length u.head.ports < 2 ^ 32) same h.current_fits in
+    record { fit = fit_more old new s e fits h.fit; current_fits = tt }
+closed_after old new s None is e was none h = absurd cc
+closed_after old new s (Some t) (Some u) e was is h = absurd cc
+
+-- or the table stays
+pub dropped_after : (old new : List Sub) (was is : Option Sub) → new ≡ old → is ≡ None → AreSubs old was → AreSubs new is
+dropped_after old new was None e is h = record { fit = subst PortsFit (sym e) h.fit; current_fits = tt }
+dropped_after old new was (Some s) e is h = absurd cc

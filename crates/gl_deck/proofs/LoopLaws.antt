@@ -3,7 +3,7 @@ use Rattle.std.proofs.Common.{◌≡◌, List, ◌∷◌, Option, Some, None, Re
 use Rattle.std.specs.Result.{IsErrAnd}
 use Rattle.gl_text.specs.LogicalLines.{Line, Fault}
 use Rattle.gl_fault.proofs.AnswerLaws.{through, same_refusal}
-use Rattle.gl_fault.specs.Refusals.{◌>>=◌, IsRefusal}
+use Rattle.gl_fault.specs.Refusals.{IsRefusal}
 use Rattle.gl_line.specs.Answers as line
 use Rattle.gl_line.specs.Answers.{IsLast}
 use Rattle.gl_line.specs.declared.fault.LineFault.{LineFault}

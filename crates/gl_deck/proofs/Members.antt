@@ -2,6 +2,7 @@
 use Rattle.std.proofs.Common.{◌≡◌, ◌<◌, ℕ, zero, suc, List, [], ◌∷◌, ◌++◌, length, map, cond, Bool, true, false, Some, refl, sym, ap, subst, ◌∙◌, arith, inl, inr, get_or}
 use Rattle.std.specs.Prelude.{◌⊎◌, ◌||◌, filter, flat_map, slice_get}
 use Rattle.std.specs.List.{AllByRecursion, list_any, IsAmong}
+use Rattle.std.proofs.lemmas.Bool.{or_left, or_right}
 use Rattle.gl_text.specs.LogicalLines.{same_text}
 use Rattle.gl_text.specs.Decks.{is_in}
 use Rattle.gl_deck.proofs.CallLaws.{exact, itself}
@@ -97,14 +98,6 @@ any_by p false y ys e ih h = let g = ih h in (g.0, inr g.1, g.2)
 pub from_any : {A : Type 0} (p : A → Bool) (xs : List A) → list_any p xs ≡ true → (x : A) × (In x xs) × (p x ≡ true)
 from_any p [] h = absurd cc
 from_any p (y ∷ ys) h = any_by p (p y) y ys refl (from_any p ys) h
-
-or_left : (a b : Bool) → a ≡ true → (a || b) ≡ true
-or_left true b h = refl
-or_left false b h = absurd cc
-
-or_right : (a b : Bool) → b ≡ true → (a || b) ≡ true
-or_right true b h = refl
-or_right false b h = h
 
 pub in_any : {A : Type 0} (p : A → Bool) (x : A) (xs : List A) → In x xs → p x ≡ true → list_any p xs ≡ true
 in_any p x [] h t = absurd h

@@ -10,7 +10,7 @@ use Rattle.gl_text.specs.Cards.{Head, Card, dev, call, model, subckt, ends, glob
 use Rattle.gl_text.specs.Decks.{Body, dev_at, call_at, Sub, Placed, body_of, bodies}
 use Rattle.gl_deck.specs.Bodies.{names_of}
 use Rattle.gl_deck.specs.Drafts.{Draft, scope_of, with_card, known_at, nested_in}
-use Rattle.gl_deck.proofs.DraftTables.{keyed}
+use Rattle.gl_deck.proofs.TableLaws.{keyed_more}
 use Rattle.gl_deck.proofs.PlacedLists.{placed, push, none_more, apart, apart_back, same_number, absent, body_in}
 use Rattle.gl_deck.proofs.CardSteps.{current_after, no_bodies}
 
@@ -154,7 +154,7 @@ closes b l cards s name subs e h =
     record {
       heads = append-nil (map head_part (values_of (insert_entry same_text subs s.head.name s))) ∙ ap (map head_part) those ∙ map-append head_part (values_of subs) (s ∷ [])
           ∙ heads_kept cards p (heads_of subs (Some s)) refl h.heads;
-      named = keyed subs s h.named;
+      named = keyed_more subs s.head.name s refl h.named;
       closed_bodies = subst P (sym those) (all_more (HasBodies (cards ++ p ∷ [])) (values_of subs) s (bodies_kept cards (Some s) l (ends name) (values_of subs) h.closed_bodies h.closed_apart)
           (h.current_is.2 ∙ sym (no_body s.line cards p refl)));
       closed_before = subst Q (sym those) (all_more (StandsBefore (l + 1)) (values_of subs) s (later_before b (l + 1) (values_of subs) (omega (arith, e)) h.closed_before) (h.current_is.0, omega (arith, e, h.current_is.1)));

@@ -9,6 +9,7 @@ abbrev pub body_value : Body → decks.Body
 body_value (body.Dev line d) = decks.dev_at line d
 body_value (body.Call line c) = decks.call_at line c
 
+-- devices and X cards, with their lines
 abbrev pub bodies_value : List Body → List decks.Body
 bodies_value cards = map body_value cards
 
@@ -20,3 +21,7 @@ line_of (body.Call line c) = line
 -- the names of subcircuits
 abbrev pub names_of : List decks.Sub → List (List ℕ)
 names_of subs = map (λ (s : decks.Sub). s.head.name) subs
+
+-- subcircuits under their names
+abbrev pub table_of : List decks.Sub → List (List ℕ × decks.Sub)
+table_of subs = map (λ (s : decks.Sub). (s.head.name, s)) subs

@@ -1,5 +1,5 @@
 -- X cards as far as their calls go, and what refuses them.
-use Rattle.std.specs.Prelude.{ℕ, ◌<◌, ◌^◌, ◌==◌, ◌&&◌, not, List, [], ◌∷◌, length, Option, Some, None, All}
+use Rattle.std.specs.Prelude.{ℕ, ◌<◌, ◌^◌, ◌==◌, ◌&&◌, not, List, [], ◌∷◌, length, map, Option, Some, None, All}
 use Rattle.gl_text.specs.LogicalLines.{Fault, unknown_subckt, wrong_node_count, recursive}
 use Rattle.gl_fault.specs.Refusals.{first_some, when}
 use Rattle.gl_text.specs.Decks.{Scope, Sub, is_inside, find_sub, reaches}
@@ -20,6 +20,10 @@ known_fault subs s (Some t) = first_some (when (not (s.nodes == length t.head.po
 -- the lowest refusal of an X card by its call
 abbrev pub site_fault : List Sub → Site → Option Fault
 site_fault subs s = known_fault subs s (find_sub subs s.sub)
+
+-- the first of these X cards, by their calls
+abbrev pub first_by_call : List Sub → List Site → Option Fault
+first_by_call subs sites = first_some (map (site_fault subs) sites)
 
 -- each subcircuit has as many ports as a count holds
 abbrev pub PortsFit : List Sub → Type 0

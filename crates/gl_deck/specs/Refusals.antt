@@ -1,5 +1,6 @@
 -- What a refusal of the code means, and what reading gives.
-use Rattle.std.specs.Prelude.{Option, Some, None, Result}
+use Rattle.std.specs.Prelude.{◌≡◌, Option, Some, None, Result, ⊤}
+use Rattle.std.specs.Result.{IsErrAnd}
 use Rattle.gl_fault.specs.Refusals as answers
 use Rattle.gl_text.specs.LogicalLines as lines
 use Rattle.gl_text.specs.LogicalLines.{Fault}
@@ -36,3 +37,8 @@ Refuses = answers.Refuses fault_of
 -- the value exactly where one is wanted, and it is that one; else the wanted refusal; want of memory may come in place of either
 abbrev pub Gives : {V : Type 0} → Result V DeckFault → Result V Fault → Type 0
 Gives = answers.Gives fault_of
+
+-- where this refusal is wanted it is given, and no want of memory in its place
+abbrev pub MustRefuse : {V : Type 0} → Result V DeckFault → Option Fault → Type 0
+MustRefuse given None = ⊤
+MustRefuse given (Some fault) = IsErrAnd given (λ told. fault_of told ≡ Some fault)

@@ -12,6 +12,7 @@ pub record Walk : Type 0 where
 abbrev pub marked : ℕ → Walk → Walk
 marked place w = if slice_index_or w.marks place false then w else record { marks = slice_set w.marks place true; pending = w.pending ++ place ∷ [] }
 
+-- the one at a place is marked, if there is one
 abbrev pub marked_at : Option ℕ → Walk → Walk
 marked_at None w = w
 marked_at (Some place) w = marked place w
@@ -31,5 +32,6 @@ abbrev pub is_marked_at : Walk → Option ℕ → Bool
 is_marked_at w None = false
 is_marked_at w (Some place) = slice_index_or w.marks place false
 
+-- whether the subcircuit of a name is marked
 abbrev pub is_marked : List Sub → Walk → List ℕ → Bool
 is_marked subs w name = is_marked_at w (place_in subs name)

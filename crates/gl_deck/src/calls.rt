@@ -1,10 +1,6 @@
-ghost use Rattle.std.specs.Prelude.{◌≡◌, map, IfOk, IfSome};
-ghost use Rattle.std.specs.Option.{option_copied};
+ghost use Rattle.std.specs.Prelude.{◌≡◌, IfOk};
 ghost use Rattle.std.specs.List.{IsAmong};
-ghost use Rattle.indexmap.specs.IndexMap.{keys, values};
-ghost use Rattle.gl_fault.specs.Refusals.{first_some};
 ghost use Rattle.gl_text.specs.Decks as decks;
-ghost use Rattle.gl_deck.specs.Bodies.{names_of};
 ghost use Rattle.gl_deck.specs.Calls as calls;
 ghost use Rattle.gl_deck.specs.Calls.{PortsFit};
 ghost use Rattle.gl_deck.specs.Ranks.{AreRanks};
@@ -13,31 +9,20 @@ ghost use Rattle.gl_deck.specs.Refusals.{Refuses};
 use crate::ranks::{rank_of, ranks};
 use crate::reach::reaches;
 use crate::site::Site;
-use crate::{DeckFault, Name, Sub};
-use indexmap::IndexMap;
+use crate::{DeckFault, Name, Sub, Subs};
 use std::alloc::{AllocError, Global};
-
-/// The subcircuit of this name.
-fn find<'a>(subs: &'a IndexMap<Name, Sub>, name: &Name) -> Option<&'a Sub>
-    requires keyed { keys subs.now ≡ names_of (values subs.now) }
-    ensures found { option_copied result ≡ decks.find_sub (values subs.now) name.now }
-    ensures among { IfSome result (λ s. IsAmong (values subs.now) s.now) }
-{
-    subs.get(name)
-}
 
 /// The target is the subcircuit of this name, or leads to it.
 fn leads_to(
     alloc: Global,
-    subs: &IndexMap<Name, Sub>,
+    subs: &Subs,
     ranks: &[usize],
     target: &Sub,
     name: &Name,
 ) -> Result<bool, AllocError>
-    requires keyed { keys subs.now ≡ names_of (values subs.now) }
-    requires ranks { AreRanks (values subs.now) ranks.now }
-    requires among { IsAmong (values subs.now) target.now }
-    ensures leads { IfOk result (λ leads. leads ≡ decks.reaches (values subs.now) target.now name.now) }
+    requires ranks { AreRanks subs.now ranks.now }
+    requires among { IsAmong subs.now target.now }
+    ensures leads { IfOk result (λ leads. leads ≡ decks.reaches subs.now target.now name.now) }
 {
     if rank_of(subs, ranks, target.head().name()) < rank_of(subs, ranks, name) {
         return Ok(false);
@@ -48,18 +33,17 @@ fn leads_to(
 /// Why the call of an X card is refused.
 fn site_fault(
     alloc: Global,
-    subs: &IndexMap<Name, Sub>,
+    subs: &Subs,
     ranks: &[usize],
     site: &Site,
 ) -> Result<Option<DeckFault>, AllocError>
-    requires keyed { keys subs.now ≡ names_of (values subs.now) }
-    requires ranks { AreRanks (values subs.now) ranks.now }
-    requires ports { PortsFit (values subs.now) }
-    ensures refused { IfOk result (λ fault. Refuses fault (calls.site_fault (values subs.now) site.now)) }
+    requires ranks { AreRanks subs.now ranks.now }
+    requires ports { PortsFit subs.now }
+    ensures refused { IfOk result (λ fault. Refuses fault (calls.site_fault subs.now site.now)) }
 {
     let line = site.line();
     let has = site.nodes();
-    let Some(target) = find(subs, site.sub()) else {
+    let Some(target) = subs.get(site.sub()) else {
         return Ok(Some(DeckFault::UnknownSubckt { line }));
     };
     let needs = target.head().ports().len() as u32;
@@ -75,14 +59,13 @@ fn site_fault(
 /// The refusal of the first X card whose call is refused.
 fn first_fault(
     alloc: Global,
-    subs: &IndexMap<Name, Sub>,
+    subs: &Subs,
     ranks: &[usize],
     sites: &[Site],
 ) -> Result<Option<DeckFault>, AllocError>
-    requires keyed { keys subs.now ≡ names_of (values subs.now) }
-    requires ranks { AreRanks (values subs.now) ranks.now }
-    requires ports { PortsFit (values subs.now) }
-    ensures first { IfOk result (λ fault. Refuses fault (first_some (map (calls.site_fault (values subs.now)) sites.now))) }
+    requires ranks { AreRanks subs.now ranks.now }
+    requires ports { PortsFit subs.now }
+    ensures first { IfOk result (λ fault. Refuses fault (calls.first_by_call subs.now sites.now)) }
 {
     let mut rest = sites;
     while let [site, behind @ ..] = rest {
@@ -100,12 +83,11 @@ fn first_fault(
 /// it leads to is looked at.
 pub fn first_call_fault(
     alloc: Global,
-    subs: &IndexMap<Name, Sub>,
+    subs: &Subs,
     sites: &[Site],
 ) -> Result<Option<DeckFault>, AllocError>
-    requires keyed { keys subs.now ≡ names_of (values subs.now) }
-    requires ports { PortsFit (values subs.now) }
-    ensures first { IfOk result (λ fault. Refuses fault (first_some (map (calls.site_fault (values subs.now)) sites.now))) }
+    requires ports { PortsFit subs.now }
+    ensures first { IfOk result (λ fault. Refuses fault (calls.first_by_call subs.now sites.now)) }
 {
     let ranks = ranks(alloc, subs)?;
     first_fault(alloc, subs, &ranks, sites)

@@ -1,9 +1,7 @@
 ghost use Rattle.std.specs.Prelude.{◌≡◌, map};
-ghost use Rattle.indexmap.specs.IndexMap.{keys, values};
-ghost use Rattle.gl_deck.specs.Bodies.{bodies_value, names_of};
+ghost use Rattle.gl_deck.specs.Bodies.{bodies_value};
 
-use crate::{Body, ModelCard, Name, Sub};
-use indexmap::IndexMap;
+use crate::{Body, ModelCard, Name, Subs};
 use std::marker::Model;
 
 /// A deck. Contracts see it as its title, globals, models, subcircuits, top cards and passed cards, each in order.
@@ -15,8 +13,8 @@ pub struct Deck {
     pub globals: Vec<Name>,
     /// The models.
     pub models: Vec<ModelCard>,
-    /// The subcircuits, each under its name.
-    pub subs: IndexMap<Name, Sub>,
+    /// The subcircuits.
+    pub subs: Subs,
     /// The devices and X cards outside subcircuits.
     pub top: Vec<Body>,
     /// The texts of dot cards that are carried along.
@@ -24,16 +22,13 @@ pub struct Deck {
 }
 
 impl Model for Deck {
-    ghost use Rattle.std.specs.Prelude.{◌≡◌, map};
-    ghost use Rattle.indexmap.specs.IndexMap.{keys, values};
+    ghost use Rattle.std.specs.Prelude.{map};
     ghost use Rattle.gl_text.specs.Decks.{Deck as DeckValue};
-    ghost use Rattle.gl_deck.specs.Bodies.{bodies_value, names_of};
+    ghost use Rattle.gl_deck.specs.Bodies.{bodies_value};
 
     ghost Value = { DeckValue };
 
-    ghost view = { λ d. record { title = d.title.items; globals = d.globals.items; models = d.models.items; subs = values d.subs; top = bodies_value d.top.items; passed = map (λ t. t.items) d.passed.items } };
-
-    ghost invariant = { λ d. keys d.subs ≡ names_of (values d.subs) };
+    ghost view = { λ d. record { title = d.title.items; globals = d.globals.items; models = d.models.items; subs = d.subs; top = bodies_value d.top.items; passed = map (λ t. t.items) d.passed.items } };
 }
 
 impl Deck {
@@ -58,10 +53,9 @@ impl Deck {
         &self.models
     }
 
-    /// The subcircuits, by name.
-    pub fn subs(&self) -> &IndexMap<Name, Sub>
-        ensures subs { values result.now ≡ self.now.subs }
-        ensures keyed { keys result.now ≡ names_of (values result.now) }
+    /// The subcircuits.
+    pub fn subs(&self) -> &Subs
+        ensures subs { result.now ≡ self.now.subs }
     {
         &self.subs
     }

@@ -1,14 +1,13 @@
 ghost use Rattle.std.specs.Prelude.{◌≡◌, ◌<◌, ◌^◌, length, map, OnOk, IfOk};
-ghost use Rattle.indexmap.specs.IndexMap.{keys, values};
-ghost use Rattle.gl_text.specs.Decks.{dev_at, call_at};
+ghost use Rattle.gl_text.specs.Decks.{dev_at};
 ghost use Rattle.gl_card.specs.Reading.{card_value};
-ghost use Rattle.gl_deck.specs.Bodies.{bodies_value, body_value, names_of};
+ghost use Rattle.gl_deck.specs.Bodies.{bodies_value, body_value};
 ghost use Rattle.gl_deck.specs.Cards.{IsCountable};
-ghost use Rattle.gl_deck.specs.Drafts.{empty_draft, names_at, with_body, with_site, with_model, opened, closed, with_globals, with_passed, draft_after, scope_of, site_of};
+ghost use Rattle.gl_deck.specs.Drafts.{empty_draft, with_body_here, with_call_here, with_model, opened, closed, with_globals, with_passed, draft_after, scope_of, site_of};
 
 use crate::globals::add_names;
 use crate::site::Site;
-use crate::{Body, CallCard, Card, DevCard, Head, Memory, ModelCard, Name, Sub};
+use crate::{Body, CallCard, Card, DevCard, Head, Memory, ModelCard, Name, Sub, Subs};
 use indexmap::{IndexMap, IndexSet};
 use std::alloc::Global;
 use std::marker::Model;
@@ -28,8 +27,8 @@ pub struct Draft {
     pub globals: IndexSet<Name>,
     /// The models.
     pub models: Vec<ModelCard>,
-    /// The closed subcircuits, each under its name.
-    pub subs: IndexMap<Name, Sub>,
+    /// The closed subcircuits.
+    pub subs: Subs,
     /// The devices and X cards of the top.
     pub top: Vec<Body>,
     /// The texts of passed cards.
@@ -39,17 +38,16 @@ pub struct Draft {
 }
 
 impl Model for Draft {
-    ghost use Rattle.std.specs.Prelude.{◌≡◌, map};
-    ghost use Rattle.indexmap.specs.IndexMap.{keys, values};
-    ghost use Rattle.gl_deck.specs.Bodies.{bodies_value};
+    ghost use Rattle.std.specs.Prelude.{map};
+    ghost use Rattle.gl_deck.specs.Bodies.{bodies_value, table_of};
     ghost use Rattle.gl_deck.specs.Cards.{AreSubs};
     ghost use Rattle.gl_deck.specs.Drafts.{Draft as DraftValue};
 
     ghost Value = { DraftValue };
 
-    ghost view = { λ d. record { current = d.current; top_names = d.top_names.entries; inner_names = d.inner_names.entries; model_names = d.model_names.entries; globals = d.globals.keys; models = d.models.items; subs = d.subs.entries; top = bodies_value d.top.items; passed = map (λ t. t.items) d.passed.items; sites = d.sites.items } };
+    ghost view = { λ d. record { current = d.current; top_names = d.top_names.entries; inner_names = d.inner_names.entries; model_names = d.model_names.entries; globals = d.globals.keys; models = d.models.items; subs = table_of d.subs; top = bodies_value d.top.items; passed = map (λ t. t.items) d.passed.items; sites = d.sites.items } };
 
-    ghost invariant = { λ d. AreSubs (keys d.subs) (values d.subs) d.current };
+    ghost invariant = { λ d. AreSubs d.subs d.current };
 }
 
 impl Draft {
@@ -64,7 +62,7 @@ impl Draft {
             model_names: IndexMap::new(alloc),
             globals: IndexSet::new(alloc),
             models: Vec::new(alloc),
-            subs: IndexMap::new(alloc),
+            subs: Subs::new(alloc),
             top: Vec::new(alloc),
             passed: Vec::new(alloc),
             sites: Vec::new(alloc),
@@ -73,7 +71,8 @@ impl Draft {
 
     /// Adds a device or X card with its name, in the open subcircuit or at the top.
     fn add_body(&mut self, name: Name, line: u32, card: Body) -> Result<(), Memory>
-        ensures added { OnOk result (self.new ≡ with_body self.old.current self.old name line (body_value card)) }
+        ensures added { OnOk result
+            (self.new ≡ with_body_here self.old name line (body_value card)) }
     {
         match &mut self.current {
             None => {
@@ -116,15 +115,15 @@ impl Draft {
         ensures closed { OnOk result (self.new ≡ closed self.old.current self.old) }
     {
         if let Some(sub) = self.current.take() {
-            let name = Name::of(alloc, sub.head().name().as_bytes())?;
-            self.subs.insert(name, sub)?;
+            self.subs.insert(alloc, sub)?;
         }
         Ok(())
     }
 
     /// Adds a device.
     fn add_device(&mut self, alloc: Global, line: u32, card: DevCard) -> Result<(), Memory>
-        ensures added { OnOk result (self.new ≡ with_body self.old.current self.old card.name line (dev_at line card)) }
+        ensures added { OnOk result
+            (self.new ≡ with_body_here self.old card.name line (dev_at line card)) }
     {
         let name = Name::of(alloc, card.name().as_bytes())?;
         self.add_body(name, line, Body::Dev(line, card))
@@ -132,7 +131,8 @@ impl Draft {
 
     /// The line and the name of the open subcircuit; line 0 at the top.
     fn scope(&self, alloc: Global) -> Result<(u32, Name), Memory>
-        ensures scope { IfOk result (λ s. (record { line = s.0; name = s.1 }) ≡ scope_of self.now.current) }
+        ensures scope { IfOk result
+            (λ s. (record { line = s.0; name = s.1 }) ≡ scope_of self.now.current) }
     {
         match &self.current {
             None => Ok((0, Name::of(alloc, b"")?)),
@@ -158,7 +158,7 @@ impl Draft {
     /// Adds an X card.
     fn add_call(&mut self, alloc: Global, line: u32, card: CallCard) -> Result<(), Memory>
         requires few { length card.nodes < 2 ^ 32 }
-        ensures added { OnOk result (self.new ≡ with_site (with_body self.old.current self.old card.name line (call_at line card)) (site_of self.old.current line card)) }
+        ensures added { OnOk result (self.new ≡ with_call_here self.old line card) }
     {
         let site = self.site(alloc, line, &card)?;
         let name = Name::of(alloc, card.name().as_bytes())?;

@@ -29,7 +29,8 @@ impl Draft {
 
     /// Why the cards are no deck: a subcircuit that is open, or a call that is refused.
     fn unfinished(&self, alloc: Global) -> Result<Option<DeckFault>, AllocError>
-        ensures first { IfOk result (λ fault. Refuses fault (first_some (open_in self.now ∷ calls_in self.now ∷ []))) }
+        ensures first { IfOk result
+            (λ fault. Refuses fault (first_some (open_in self.now ∷ calls_in self.now ∷ []))) }
     {
         if let Some(fault) = self.left_open() {
             return Ok(Some(fault));

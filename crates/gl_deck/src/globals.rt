@@ -48,7 +48,8 @@ pub fn add_names(known: &mut IndexSet<Name>, names: Vec<Name>) -> Result<(), Mem
 
 /// The names but `0`, in order.
 pub fn without_zero(alloc: Global, names: IndexSet<Name>) -> Result<Vec<Name>, AllocError>
-    ensures names { IfOk result (λ kept. kept.items ≡ filter (λ n. not (same_text n (codes "0"))) names.keys) }
+    ensures names { IfOk result
+        (λ kept. kept.items ≡ filter (λ n. not (same_text n (codes "0"))) names.keys) }
 {
     names
         .into_iter()

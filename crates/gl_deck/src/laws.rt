@@ -6,7 +6,8 @@ ghost use Rattle.gl_deck.specs.Ranks.{AllThere, HasRank, NoneBack};
 
 /// The deck that is read line by line is the deck of the definition, with the same refusals.
 pub fn lines_make_the_deck()
-    ensures same { (has_title : Bool) (bytes : List ℕ) → deck_by_draft has_title bytes ≡ read_deck has_title bytes }
+    ensures same { (has_title : Bool) (bytes : List ℕ)
+        → deck_by_draft has_title bytes ≡ read_deck has_title bytes }
 {}
 
 /// Where no subcircuit leads back to itself, there is a rank by which each call goes down. It is at most the number of

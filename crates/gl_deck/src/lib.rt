@@ -19,18 +19,16 @@ mod refused;
 mod site;
 mod step;
 mod sub;
+mod subs;
 #[cfg(test)]
 mod tests;
-#[cfg(test)]
-mod tests_calls;
-#[cfg(test)]
-mod tests_print;
 
 pub use body::Body;
 pub use deck::Deck;
 pub use fault::DeckFault;
 pub use gl_card::{CallCard, Card, DevCard, Head, Letter, Memory, ModelCard, Name, Tail};
 pub use laws::{lines_make_the_deck, tables_have_ranks};
-pub use places::{called_place, called_places, place_of};
+pub use places::{called_place, called_places};
 pub use print::{put_all_passed, put_ends, put_globals, put_head, put_models, put_text};
 pub use sub::Sub;
+pub use subs::Subs;

@@ -58,7 +58,8 @@ pub fn put_models(out: &mut Vec<u8>, models: &[ModelCard]) -> Result<(), Memory>
 
 /// Appends a device or an X card.
 fn put_body(out: &mut Vec<u8>, card: &Body) -> Result<(), Memory>
-    ensures ok { OnOk result (out.new.items ≡ out.old.items ++ decks.body_line (body_value card.now)) }
+    ensures ok { OnOk result
+        (out.new.items ≡ out.old.items ++ decks.body_line (body_value card.now)) }
     ensures front { take (length out.old.items) out.new.items ≡ out.old.items }
 {
     match card {
@@ -70,7 +71,8 @@ fn put_body(out: &mut Vec<u8>, card: &Body) -> Result<(), Memory>
 
 /// Appends devices and X cards.
 fn put_bodies(out: &mut Vec<u8>, cards: &[Body]) -> Result<(), Memory>
-    ensures ok { OnOk result (out.new.items ≡ out.old.items ++ flat_map decks.body_line (bodies_value cards.now)) }
+    ensures ok { OnOk result
+        (out.new.items ≡ out.old.items ++ flat_map decks.body_line (bodies_value cards.now)) }
     ensures front { take (length out.old.items) out.new.items ≡ out.old.items }
 {
     for card in cards {
@@ -130,7 +132,8 @@ pub fn put_text(out: &mut Vec<u8>, text: &[u8]) -> Result<(), Memory>
 
 /// Appends the cards that are carried along.
 pub fn put_all_passed(out: &mut Vec<u8>, texts: &[Vec<u8>]) -> Result<(), Memory>
-    ensures ok { OnOk result (out.new.items ≡ out.old.items ++ flat_map passed_line (map (λ t. t.items) texts.now)) }
+    ensures ok { OnOk result
+        (out.new.items ≡ out.old.items ++ flat_map passed_line (map (λ t. t.items) texts.now)) }
     ensures front { take (length out.old.items) out.new.items ≡ out.old.items }
 {
     for text in texts {
@@ -147,7 +150,7 @@ fn put_deck(out: &mut Vec<u8>, deck: &Deck) -> Result<(), Memory>
     put_text(out, deck.title())?;
     put_globals(out, deck.globals())?;
     put_models(out, deck.models())?;
-    put_subs(out, deck.subs().values().as_slice())?;
+    put_subs(out, deck.subs().as_slice())?;
     put_bodies(out, deck.top())?;
     put_all_passed(out, deck.passed())?;
     put_text(out, b".end")?;
@@ -158,7 +161,8 @@ impl Deck {
     /// Appends the deck's text: the title, `.global` cards of one name, models, subcircuits, top cards, passed cards and `.end`,
     /// each on a line. Without memory for all of it nothing is appended.
     pub fn print(&self, out: &mut Vec<u8>) -> Result<(), Memory>
-        ensures printed { out.new.items ≡ (if is_ok result then out.old.items ++ deck_text self.now else out.old.items) }
+        ensures printed { out.new.items
+            ≡ (if is_ok result then out.old.items ++ deck_text self.now else out.old.items) }
     {
         let start = out.len();
         if put_deck(out, self).is_err() {

@@ -1,22 +1,18 @@
 ghost use Rattle.std.specs.Prelude.{◌≡◌, ◌+◌, ◌*◌, ◌<◌, ◌≤◌, ◌^◌, ◌==◌, ℕ, [], ◌∷◌, ◌++◌, IfOk, OnOk, if◌then◌else◌, length, slice_get, slice_index};
-ghost use Rattle.indexmap.specs.IndexMap.{keys, values};
 ghost use Rattle.gl_text.specs.Levels.{Down};
-ghost use Rattle.gl_deck.specs.Bodies.{bodies_value, body_value, names_of};
+ghost use Rattle.gl_deck.specs.Bodies.{bodies_value, body_value};
 ghost use Rattle.gl_deck.specs.CallCounts.{calls_from, calls_on, cards_at, times, uncalled_at};
-ghost use Rattle.gl_deck.specs.Places.{place_called};
 ghost use Rattle.gl_deck.specs.Ranks.{AreRanks, NoneBack, rank_in};
 
-use crate::places::{called_place, place_of};
-use crate::{Body, Name, Sub};
-use indexmap::IndexMap;
+use crate::places::called_place;
+use crate::{Body, Name, Sub, Subs};
 use std::alloc::{AllocError, Global};
 
 /// The rank of the subcircuit of this name; 0 where there is none.
-pub fn rank_of(subs: &IndexMap<Name, Sub>, ranks: &[usize], name: &Name) -> usize
-    requires keyed { keys subs.now ≡ names_of (values subs.now) }
-    ensures rank { result ≡ rank_in (values subs.now) ranks.now name.now }
+pub fn rank_of(subs: &Subs, ranks: &[usize], name: &Name) -> usize
+    ensures rank { result ≡ rank_in subs.now ranks.now name.now }
 {
-    match place_of(subs, name) {
+    match subs.place_of(name) {
         Some(place) => ranks.get(place).copied().unwrap_or(0),
         None => 0,
     }
@@ -26,18 +22,18 @@ pub fn rank_of(subs: &IndexMap<Name, Sub>, ranks: &[usize], name: &Name) -> usiz
 fn count(calls: &mut [u128], place: usize)
     requires within { place < length calls.old }
     requires room { slice_index calls.old place + 1 < 2 ^ 128 }
-    ensures counted { (p : ℕ) → slice_index calls.new p ≡ slice_index calls.old p + times p (place ∷ []) }
+    ensures counted { (p : ℕ) → slice_index calls.new p
+        ≡ slice_index calls.old p + times p (place ∷ []) }
 {
     calls[place] += 1;
 }
 
 /// Counts the call that a card is, if it calls a subcircuit of the table.
-fn count_card(calls: &mut [u128], subs: &IndexMap<Name, Sub>, card: &Body)
-    requires keyed { keys subs.now ≡ names_of (values subs.now) }
-    requires sized { length calls.old ≡ length (values subs.now) }
+fn count_card(calls: &mut [u128], subs: &Subs, card: &Body)
+    requires sized { length calls.old ≡ length subs.now }
     requires room { (p : ℕ) → slice_index calls.old p + 1 < 2 ^ 128 }
     ensures counted { (p : ℕ) → slice_index calls.new p
-        ≡ slice_index calls.old p + calls_on (values subs.now) (body_value card.now ∷ []) p }
+        ≡ slice_index calls.old p + calls_on subs.now (body_value card.now ∷ []) p }
 {
     if let Some(place) = called_place(subs, card) {
         count(calls, place);
@@ -45,12 +41,11 @@ fn count_card(calls: &mut [u128], subs: &IndexMap<Name, Sub>, card: &Body)
 }
 
 /// Counts the calls that stand on these cards.
-fn count_cards(calls: &mut [u128], subs: &IndexMap<Name, Sub>, cards: &[Body])
-    requires keyed { keys subs.now ≡ names_of (values subs.now) }
-    requires sized { length calls.old ≡ length (values subs.now) }
+fn count_cards(calls: &mut [u128], subs: &Subs, cards: &[Body])
+    requires sized { length calls.old ≡ length subs.now }
     requires room { (p : ℕ) → slice_index calls.old p + length cards.now < 2 ^ 128 }
     ensures counted { (p : ℕ) → slice_index calls.new p
-        ≡ slice_index calls.old p + calls_on (values subs.now) (bodies_value cards.now) p }
+        ≡ slice_index calls.old p + calls_on subs.now (bodies_value cards.now) p }
 {
     let mut rest = cards;
     while let [card, behind @ ..] = rest {
@@ -60,12 +55,11 @@ fn count_cards(calls: &mut [u128], subs: &IndexMap<Name, Sub>, cards: &[Body])
 }
 
 /// Counts the calls of these subcircuits.
-fn count_callers(calls: &mut [u128], subs: &IndexMap<Name, Sub>, callers: &[Sub])
-    requires keyed { keys subs.now ≡ names_of (values subs.now) }
-    requires sized { length calls.old ≡ length (values subs.now) }
+fn count_callers(calls: &mut [u128], subs: &Subs, callers: &[Sub])
+    requires sized { length calls.old ≡ length subs.now }
     requires room { (p : ℕ) → slice_index calls.old p + length callers.now * 2 ^ 64 < 2 ^ 128 }
     ensures counted { (p : ℕ) → slice_index calls.new p
-        ≡ slice_index calls.old p + calls_from (values subs.now) callers.now p }
+        ≡ slice_index calls.old p + calls_from subs.now callers.now p }
 {
     let mut rest = callers;
     while let [sub, behind @ ..] = rest {
@@ -75,14 +69,13 @@ fn count_callers(calls: &mut [u128], subs: &IndexMap<Name, Sub>, callers: &[Sub]
 }
 
 /// For each subcircuit, how many cards of subcircuits call it.
-fn call_counts(alloc: Global, subs: &IndexMap<Name, Sub>) -> Result<Vec<u128>, AllocError>
-    requires keyed { keys subs.now ≡ names_of (values subs.now) }
-    ensures sized { IfOk result (λ calls. length calls.items ≡ length (values subs.now)) }
+fn call_counts(alloc: Global, subs: &Subs) -> Result<Vec<u128>, AllocError>
+    ensures sized { IfOk result (λ calls. length calls.items ≡ length subs.now) }
     ensures counted { IfOk result (λ calls. (p : ℕ)
-        → slice_index calls.items p ≡ calls_from (values subs.now) (values subs.now) p) }
+        → slice_index calls.items p ≡ calls_from subs.now subs.now p) }
 {
     let mut calls = vec![in alloc; 0; subs.len()]?;
-    count_callers(&mut calls, subs, subs.values().as_slice());
+    count_callers(&mut calls, subs, subs.as_slice());
     Ok(calls)
 }
 
@@ -100,7 +93,8 @@ fn add_uncalled(ready: &mut Vec<usize>, calls: &[u128], place: usize) -> Result<
 
 /// The places of the subcircuits that nothing calls, each once.
 fn uncalled(alloc: Global, calls: &[u128]) -> Result<Vec<usize>, AllocError>
-    ensures each_once { IfOk result (λ places. (p : ℕ) → times p places.items ≡ uncalled_at calls.now p) }
+    ensures each_once { IfOk result
+        (λ places. (p : ℕ) → times p places.items ≡ uncalled_at calls.now p) }
 {
     let mut places = Vec::new(alloc);
     for place in 0..calls.len() {
@@ -113,7 +107,8 @@ fn uncalled(alloc: Global, calls: &[u128]) -> Result<Vec<usize>, AllocError>
 fn release(calls: &mut [u128], ready: &mut Vec<usize>, place: usize) -> Result<(), AllocError>
     requires within { place < length calls.old }
     requires called { 0 < slice_index calls.old place }
-    ensures fewer { OnOk result ((p : ℕ) → slice_index calls.old p ≡ slice_index calls.new p + times p (place ∷ [])) }
+    ensures fewer { OnOk result
+        ((p : ℕ) → slice_index calls.old p ≡ slice_index calls.new p + times p (place ∷ [])) }
     ensures freed { OnOk result ((p : ℕ) → times p ready.new.items + uncalled_at calls.old p
         ≡ times p ready.old.items + uncalled_at calls.new p) }
 {
@@ -125,15 +120,14 @@ fn release(calls: &mut [u128], ready: &mut Vec<usize>, place: usize) -> Result<(
 fn release_card(
     calls: &mut [u128],
     ready: &mut Vec<usize>,
-    subs: &IndexMap<Name, Sub>,
+    subs: &Subs,
     card: &Body,
 ) -> Result<(), AllocError>
-    requires keyed { keys subs.now ≡ names_of (values subs.now) }
-    requires sized { length calls.old ≡ length (values subs.now) }
+    requires sized { length calls.old ≡ length subs.now }
     requires called { (p : ℕ)
-        → calls_on (values subs.now) (body_value card.now ∷ []) p ≤ slice_index calls.old p }
+        → calls_on subs.now (body_value card.now ∷ []) p ≤ slice_index calls.old p }
     ensures fewer { OnOk result ((p : ℕ) → slice_index calls.old p
-        ≡ slice_index calls.new p + calls_on (values subs.now) (body_value card.now ∷ []) p) }
+        ≡ slice_index calls.new p + calls_on subs.now (body_value card.now ∷ []) p) }
     ensures freed { OnOk result ((p : ℕ) → times p ready.new.items + uncalled_at calls.old p
         ≡ times p ready.old.items + uncalled_at calls.new p) }
 {
@@ -147,15 +141,14 @@ fn release_card(
 fn release_cards(
     calls: &mut [u128],
     ready: &mut Vec<usize>,
-    subs: &IndexMap<Name, Sub>,
+    subs: &Subs,
     cards: &[Body],
 ) -> Result<(), AllocError>
-    requires keyed { keys subs.now ≡ names_of (values subs.now) }
-    requires sized { length calls.old ≡ length (values subs.now) }
+    requires sized { length calls.old ≡ length subs.now }
     requires called { (p : ℕ)
-        → calls_on (values subs.now) (bodies_value cards.now) p ≤ slice_index calls.old p }
+        → calls_on subs.now (bodies_value cards.now) p ≤ slice_index calls.old p }
     ensures fewer { OnOk result ((p : ℕ) → slice_index calls.old p
-        ≡ slice_index calls.new p + calls_on (values subs.now) (bodies_value cards.now) p) }
+        ≡ slice_index calls.new p + calls_on subs.now (bodies_value cards.now) p) }
     ensures freed { OnOk result ((p : ℕ) → times p ready.new.items + uncalled_at calls.old p
         ≡ times p ready.old.items + uncalled_at calls.new p) }
 {
@@ -171,19 +164,18 @@ fn release_cards(
 fn release_calls(
     calls: &mut [u128],
     ready: &mut Vec<usize>,
-    subs: &IndexMap<Name, Sub>,
+    subs: &Subs,
     place: usize,
 ) -> Result<(), AllocError>
-    requires keyed { keys subs.now ≡ names_of (values subs.now) }
-    requires sized { length calls.old ≡ length (values subs.now) }
+    requires sized { length calls.old ≡ length subs.now }
     requires called { (p : ℕ)
-        → calls_on (values subs.now) (cards_at (slice_get (values subs.now) place)) p ≤ slice_index calls.old p }
+        → calls_on subs.now (cards_at (slice_get subs.now place)) p ≤ slice_index calls.old p }
     ensures fewer { OnOk result ((p : ℕ) → slice_index calls.old p
-        ≡ slice_index calls.new p + calls_on (values subs.now) (cards_at (slice_get (values subs.now) place)) p) }
+        ≡ slice_index calls.new p + calls_on subs.now (cards_at (slice_get subs.now place)) p) }
     ensures freed { OnOk result ((p : ℕ) → times p ready.new.items + uncalled_at calls.old p
         ≡ times p ready.old.items + uncalled_at calls.new p) }
 {
-    match subs.values().as_slice().get(place) {
+    match subs.as_slice().get(place) {
         Some(sub) => release_cards(calls, ready, subs, sub.cards()),
         None => Ok(()),
     }
@@ -191,11 +183,10 @@ fn release_calls(
 
 /// Numbers of the subcircuits, by their places, by which no call of a subcircuit goes up. Where no subcircuit leads back to
 /// itself, each call goes down.
-pub fn ranks(alloc: Global, subs: &IndexMap<Name, Sub>) -> Result<Vec<usize>, AllocError>
-    requires keyed { keys subs.now ≡ names_of (values subs.now) }
-    ensures not_up { IfOk result (λ ranks. AreRanks (values subs.now) ranks.items) }
-    ensures down { IfOk result (λ ranks. NoneBack (values subs.now)
-        → Down (rank_in (values subs.now) ranks.items) (values subs.now)) }
+pub fn ranks(alloc: Global, subs: &Subs) -> Result<Vec<usize>, AllocError>
+    ensures not_up { IfOk result (λ ranks. AreRanks subs.now ranks.items) }
+    ensures down { IfOk result (λ ranks. NoneBack subs.now
+        → Down (rank_in subs.now ranks.items) subs.now) }
 {
     let mut calls = call_counts(alloc, subs)?;
     let mut ready = uncalled(alloc, &calls)?;

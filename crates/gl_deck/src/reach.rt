@@ -1,15 +1,12 @@
 ghost use Rattle.std.specs.Prelude.{◌≡◌, ◌<◌, ℕ, false, List, [], ◌∷◌, ◌++◌, length, slice_get, slice_index_or, option_to_list, IfOk, OnOk};
 ghost use Rattle.std.specs.List.{IsAmong};
 ghost use Rattle.std.specs.Option.{IfNone};
-ghost use Rattle.indexmap.specs.IndexMap.{keys, values};
 ghost use Rattle.gl_text.specs.Decks as decks;
 ghost use Rattle.gl_text.specs.Decks.{callees};
-ghost use Rattle.gl_deck.specs.Bodies.{bodies_value, names_of};
+ghost use Rattle.gl_deck.specs.Bodies.{bodies_value};
 ghost use Rattle.gl_deck.specs.Walks.{called_names, is_marked, marked as marked_by, marked_all};
 
-use crate::places::place_of;
-use crate::{Body, Name, Sub};
-use indexmap::IndexMap;
+use crate::{Body, Name, Sub, Subs};
 use std::alloc::{AllocError, Global};
 use std::marker::Model;
 
@@ -34,7 +31,8 @@ impl Walk {
     /// None of so many subcircuits is marked.
     fn new(alloc: Global, count: usize) -> Result<Walk, AllocError>
         ensures sized { IfOk result (λ w. length w.marks ≡ count) }
-        ensures nothing { IfOk result (λ w. (place : ℕ) → slice_index_or w.marks place false ≡ false) }
+        ensures nothing { IfOk result
+            (λ w. (place : ℕ) → slice_index_or w.marks place false ≡ false) }
         ensures empty { IfOk result (λ w. w.pending ≡ []) }
     {
         Ok(Walk {
@@ -53,11 +51,10 @@ impl Walk {
     }
 
     /// The subcircuit of this name is marked.
-    fn has(&self, subs: &IndexMap<Name, Sub>, name: &Name) -> bool
-        requires keyed { keys subs.now ≡ names_of (values subs.now) }
-        ensures marked { result ≡ is_marked (values subs.now) self.now name.now }
+    fn has(&self, subs: &Subs, name: &Name) -> bool
+        ensures marked { result ≡ is_marked subs.now self.now name.now }
     {
-        match place_of(subs, name) {
+        match subs.place_of(name) {
             Some(place) => self.marks.get(place).copied().unwrap_or(false),
             None => false,
         }
@@ -77,22 +74,21 @@ impl Walk {
     }
 
     /// Marks the subcircuit of a name, if there is one.
-    fn mark_name(&mut self, subs: &IndexMap<Name, Sub>, name: &Name) -> Result<(), AllocError>
-        requires keyed { keys subs.now ≡ names_of (values subs.now) }
-        requires sized { length self.old.marks ≡ length (values subs.now) }
-        ensures marked { OnOk result (self.new ≡ marked_all (values subs.now) (name.now ∷ []) self.old) }
+    fn mark_name(&mut self, subs: &Subs, name: &Name) -> Result<(), AllocError>
+        requires sized { length self.old.marks ≡ length subs.now }
+        ensures marked { OnOk result (self.new ≡ marked_all subs.now (name.now ∷ []) self.old) }
     {
-        match place_of(subs, name) {
+        match subs.place_of(name) {
             Some(place) => self.mark(place),
             None => Ok(()),
         }
     }
 
     /// Marks what a card calls.
-    fn mark_callee(&mut self, subs: &IndexMap<Name, Sub>, card: &Body) -> Result<(), AllocError>
-        requires keyed { keys subs.now ≡ names_of (values subs.now) }
-        requires sized { length self.old.marks ≡ length (values subs.now) }
-        ensures marked { OnOk result (self.new ≡ marked_all (values subs.now) (callees (bodies_value (card.now ∷ []))) self.old) }
+    fn mark_callee(&mut self, subs: &Subs, card: &Body) -> Result<(), AllocError>
+        requires sized { length self.old.marks ≡ length subs.now }
+        ensures marked { OnOk result
+            (self.new ≡ marked_all subs.now (callees (bodies_value (card.now ∷ []))) self.old) }
     {
         match card {
             Body::Dev(_, _) => Ok(()),
@@ -101,10 +97,10 @@ impl Walk {
     }
 
     /// Marks what cards call.
-    fn mark_callees(&mut self, subs: &IndexMap<Name, Sub>, cards: &[Body]) -> Result<(), AllocError>
-        requires keyed { keys subs.now ≡ names_of (values subs.now) }
-        requires sized { length self.old.marks ≡ length (values subs.now) }
-        ensures marked { OnOk result (self.new ≡ marked_all (values subs.now) (callees (bodies_value cards.now)) self.old) }
+    fn mark_callees(&mut self, subs: &Subs, cards: &[Body]) -> Result<(), AllocError>
+        requires sized { length self.old.marks ≡ length subs.now }
+        ensures marked { OnOk result
+            (self.new ≡ marked_all subs.now (callees (bodies_value cards.now)) self.old) }
     {
         let mut rest = cards;
         while let [card, behind @ ..] = rest {
@@ -115,12 +111,12 @@ impl Walk {
     }
 
     /// Marks what the subcircuit at a place calls.
-    fn look_at(&mut self, subs: &IndexMap<Name, Sub>, place: usize) -> Result<(), AllocError>
-        requires keyed { keys subs.now ≡ names_of (values subs.now) }
-        requires sized { length self.old.marks ≡ length (values subs.now) }
-        ensures marked { OnOk result (self.new ≡ marked_all (values subs.now) (called_names (slice_get (values subs.now) place)) self.old) }
+    fn look_at(&mut self, subs: &Subs, place: usize) -> Result<(), AllocError>
+        requires sized { length self.old.marks ≡ length subs.now }
+        ensures marked { OnOk result
+            (self.new ≡ marked_all subs.now (called_names (slice_get subs.now place)) self.old) }
     {
-        match subs.values().as_slice().get(place) {
+        match subs.as_slice().get(place) {
             Some(sub) => self.mark_callees(subs, sub.cards()),
             None => Ok(()),
         }
@@ -128,10 +124,10 @@ impl Walk {
 }
 
 /// Marks a subcircuit and all that it leads to.
-fn marked_from(alloc: Global, subs: &IndexMap<Name, Sub>, target: &Sub) -> Result<Walk, AllocError>
-    requires keyed { keys subs.now ≡ names_of (values subs.now) }
-    requires among { IsAmong (values subs.now) target.now }
-    ensures reached { IfOk result (λ w. (name : List ℕ) → is_marked (values subs.now) w name ≡ decks.reaches (values subs.now) target.now name) }
+fn marked_from(alloc: Global, subs: &Subs, target: &Sub) -> Result<Walk, AllocError>
+    requires among { IsAmong subs.now target.now }
+    ensures reached { IfOk result
+        (λ w. (name : List ℕ) → is_marked subs.now w name ≡ decks.reaches subs.now target.now name) }
 {
     let mut walk = Walk::new(alloc, subs.len())?;
     walk.mark_name(subs, target.head().name())?;
@@ -142,15 +138,9 @@ fn marked_from(alloc: Global, subs: &IndexMap<Name, Sub>, target: &Sub) -> Resul
 }
 
 /// The target is the subcircuit of this name, or leads to it.
-pub fn reaches(
-    alloc: Global,
-    subs: &IndexMap<Name, Sub>,
-    target: &Sub,
-    name: &Name,
-) -> Result<bool, AllocError>
-    requires keyed { keys subs.now ≡ names_of (values subs.now) }
-    requires among { IsAmong (values subs.now) target.now }
-    ensures reaches { IfOk result (λ b. b ≡ decks.reaches (values subs.now) target.now name.now) }
+pub fn reaches(alloc: Global, subs: &Subs, target: &Sub, name: &Name) -> Result<bool, AllocError>
+    requires among { IsAmong subs.now target.now }
+    ensures reaches { IfOk result (λ b. b ≡ decks.reaches subs.now target.now name.now) }
 {
     let walk = marked_from(alloc, subs, target)?;
     Ok(walk.has(subs, name))

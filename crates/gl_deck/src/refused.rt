@@ -98,7 +98,8 @@ impl Draft {
 
     /// An `.ends` stands where none is open, or has another name.
     fn bad_ends(&self, line: u32, card: &Card) -> Option<DeckFault>
-        ensures bad_ends { Refuses result (bad_ends_in self.now.current line (card_value card.now)) }
+        ensures bad_ends { Refuses result
+            (bad_ends_in self.now.current line (card_value card.now)) }
     {
         let Card::Ends(given) = card else {
             return None;
@@ -134,7 +135,8 @@ impl Draft {
 
     /// The line of the subcircuit of this name.
     fn sub_line(&self, name: &Name) -> Option<u32>
-        ensures line { result ≡ option_map (λ (s : Sub). s.line) (lookup (same_text name.now) self.now.subs) }
+        ensures line { result
+            ≡ option_map (λ (s : Sub). s.line) (lookup (same_text name.now) self.now.subs) }
     {
         match self.subs.get(name) {
             Some(sub) => Some(sub.line()),
@@ -175,7 +177,8 @@ impl Draft {
     ) -> Result<Option<DeckFault>, AllocError>
         requires of_line { card_value card.now ≡ card_of line.now.text }
         requires size { length line.now.text ≤ LINE }
-        ensures first { IfOk result (λ fault. Refuses fault (card_fault self.now line.now (card_value card.now))) }
+        ensures first { IfOk result
+            (λ fault. Refuses fault (card_fault self.now line.now (card_value card.now))) }
     {
         let at = line.line();
         let twice = port_twice(alloc, at, card)?;

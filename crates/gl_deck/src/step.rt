@@ -15,7 +15,8 @@ impl Draft {
         requires some { 1 ≤ length line.now.text }
         requires size { length line.now.text ≤ LINE }
         ensures taken { OnOk result (draft_step self.old line.now ≡ Ok self.new) }
-        ensures refused { IfErr result (λ fault. IsRefusal (fault_of fault) (draft_step self.old line.now)) }
+        ensures refused { IfErr result
+            (λ fault. IsRefusal (fault_of fault) (draft_step self.old line.now)) }
     {
         let card = Card::parse(alloc, line)?;
         if let Some(fault) = self.refused(alloc, line, &card)? {

@@ -34,6 +34,7 @@ abbrev pub left_of : Option Left → List (Result Line Fault)
 left_of None = []
 left_of (Some l) = logical_lines l.line l.bytes.now
 
+-- a line behind what is left can still be numbered
 abbrev pub FewLeft : Option Left → Type 0
 FewLeft None = ⊤
 FewLeft (Some l) = l.line + length l.bytes.now < 2 ^ 32

@@ -8,6 +8,7 @@ use Rattle.gl_line.specs.declared.field.FieldIter.{FieldIter}
 abbrev pub text_of : FieldIter → List ℕ
 text_of s = s.text.now
 
+-- the fields that an iterator has left
 abbrev pub fields_left : FieldIter → List Piece
 fields_left s = fields_of (drop s.at s.text.now)
 

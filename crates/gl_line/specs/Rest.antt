@@ -2,10 +2,12 @@
 use Rattle.std.specs.Prelude.{ℕ, List, [], ◌∷◌, drop, flat_map}
 use Rattle.gl_text.specs.LogicalLines.{Line, grouped, kept_lines}
 
+-- the first group, if there is one
 abbrev pub first_of : List (List Line) → List Line
 first_of [] = []
 first_of (g ∷ gs) = g
 
+-- the groups behind it
 abbrev pub others_of : List (List Line) → List (List Line)
 others_of [] = []
 others_of (g ∷ gs) = gs
@@ -14,6 +16,7 @@ others_of (g ∷ gs) = gs
 abbrev pub pluses : ℕ → List ℕ → List Line
 pluses n bytes = first_of (grouped (kept_lines n bytes))
 
+-- the groups of bytes whose first line has this number
 abbrev pub groups : ℕ → List ℕ → List (List Line)
 groups n bytes = others_of (grouped (kept_lines n bytes))
 

@@ -10,7 +10,8 @@ use std::borrow::CowSlice;
 
 /// What follows the `+` that a line begins with.
 fn behind_plus(text: &[u8]) -> Option<&[u8]>
-    ensures { MatchOption result (begins 43 text.now ≡ false) (λ more. (begins 43 text.now ≡ true) × (more.now ≡ drop 1 text.now)) }
+    ensures { MatchOption result (begins 43 text.now ≡ false)
+        (λ more. (begins 43 text.now ≡ true) × (more.now ≡ drop 1 text.now)) }
 {
     match text {
         [b'+', more @ ..] => Some(more),
@@ -38,7 +39,8 @@ fn copied<'a>(
     ensures groups { IfOk result (λ g. groups g.line g.rest.now ≡ groups first bytes.now) }
     ensures none { IfOk result (λ g. pluses g.line g.rest.now ≡ []) }
     ensures few { IfOk result (λ g. g.line + length g.rest.now ≤ first + length bytes.now) }
-    ensures len { IfOk result (λ g. length g.text.items + length g.rest.now ≤ length front.now + length bytes.now) }
+    ensures len { IfOk result
+        (λ g. length g.text.items + length g.rest.now ≤ length front.now + length bytes.now) }
 {
     let mut text = Vec::from_slice(alloc, front)?;
     let mut rest = bytes;
@@ -82,11 +84,13 @@ pub fn continued<'a>(
     first: u32,
 ) -> Result<Gathered<'a>, AllocError>
     requires few { first + length bytes.now < 2 ^ 32 }
-    ensures text { IfOk result (λ g. cow_slice_items g.text ≡ front.now ++ added (pluses first bytes.now)) }
+    ensures text { IfOk result
+        (λ g. cow_slice_items g.text ≡ front.now ++ added (pluses first bytes.now)) }
     ensures groups { IfOk result (λ g. groups g.line g.rest.now ≡ groups first bytes.now) }
     ensures none { IfOk result (λ g. pluses g.line g.rest.now ≡ []) }
     ensures few { IfOk result (λ g. g.line + length g.rest.now ≤ first + length bytes.now) }
-    ensures len { IfOk result (λ g. length (cow_slice_items g.text) + length g.rest.now ≤ length front.now + length bytes.now) }
+    ensures len { IfOk result
+        (λ g. length (cow_slice_items g.text) + length g.rest.now ≤ length front.now + length bytes.now) }
 {
     if !goes_on(bytes, first) {
         return Ok(Gathered {

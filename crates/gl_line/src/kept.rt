@@ -26,7 +26,9 @@ pub struct Kept<'a> {
 /// The first line that is not dropped.
 pub fn next_kept(bytes: &[u8], first: u32) -> Option<Kept<'_>>
     requires few { first + length bytes.now < 2 ^ 32 }
-    ensures kept { MatchOption result (kept_lines first bytes.now ≡ []) (λ k. kept_lines first bytes.now ≡ (record { line = k.line; text = k.text.now }) ∷ kept_lines (k.line + 1) k.rest.now) }
+    ensures kept { MatchOption result (kept_lines first bytes.now ≡ [])
+        (λ k. kept_lines first bytes.now
+        ≡ (record { line = k.line; text = k.text.now }) ∷ kept_lines (k.line + 1) k.rest.now) }
     ensures shorter { IfSome result (λ k. k.line + length k.rest.now < first + length bytes.now) }
     ensures behind { IfSome result (λ k. length k.rest.now < length bytes.now) }
     ensures len { IfSome result (λ k. length k.text.now + length k.rest.now ≤ length bytes.now) }

@@ -14,8 +14,10 @@ fn newline(bytes: &[u8]) -> Option<usize>
 
 /// The first line, and what is behind it.
 pub fn next_line(bytes: &[u8]) -> Option<(&[u8], &[u8])>
-    ensures lines { MatchOption result (lines_of bytes.now ≡ []) (λ p. lines_of bytes.now ≡ p.0.now ∷ lines_of p.1.now) }
-    ensures shorter { MatchOption result (bytes.now ≡ []) (λ p. length p.0.now + length p.1.now ≤ length bytes.now) }
+    ensures lines { MatchOption result (lines_of bytes.now ≡ [])
+        (λ p. lines_of bytes.now ≡ p.0.now ∷ lines_of p.1.now) }
+    ensures shorter { MatchOption result (bytes.now ≡ [])
+        (λ p. length p.0.now + length p.1.now ≤ length bytes.now) }
     ensures behind { IfSome result (λ p. length p.1.now < length bytes.now) }
 {
     if bytes.is_empty() {

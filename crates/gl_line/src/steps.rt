@@ -31,7 +31,11 @@ const LONGEST: usize = 131_072;
 fn judged<'a>(line: u32, text: CowSlice<'a, u8, Global>, left: Left<'a>) -> Step<'a>
     requires few { left.line + length left.bytes.now < 2 ^ 32 }
     requires fits { length (cow_slice_items text) < 2 ^ 32 }
-    ensures given { (ls : List Line) → logical_lines left.entry.line left.entry.bytes.now ≡ up_to_long (up_to_end ls) → GivesFirst result.given (up_to_long (up_to_end ((record { line = line; text = cow_slice_items text.entry }) ∷ ls))) (left_of result.left) }
+    ensures given { (ls : List Line)
+        → logical_lines left.entry.line left.entry.bytes.now ≡ up_to_long (up_to_end ls)
+        → GivesFirst result.given
+        (up_to_long (up_to_end ((record { line = line; text = cow_slice_items text.entry }) ∷ ls)))
+        (left_of result.left) }
     ensures told { IsTold result.given }
     ensures few { FewLeft result.left }
 {
@@ -68,7 +72,8 @@ fn is_more(text: &[u8]) -> bool
 /// The first logical line.
 pub fn next_step<'a>(alloc: Global, bytes: &'a [u8], first: u32) -> Option<Step<'a>>
     requires few { first + length bytes.now < 2 ^ 32 }
-    ensures given { MatchOption result (logical_lines first bytes.now ≡ []) (λ s. GivesFirst s.given (logical_lines first bytes.now) (left_of s.left)) }
+    ensures given { MatchOption result (logical_lines first bytes.now ≡ [])
+        (λ s. GivesFirst s.given (logical_lines first bytes.now) (left_of s.left)) }
     ensures few { IfSome result (λ s. FewLeft s.left) }
 {
     let kept = next_kept(bytes, first)?;

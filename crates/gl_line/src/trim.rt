@@ -49,7 +49,8 @@ pub fn trim_end(text: &[u8]) -> &[u8]
 
 /// A text without the blanks at both ends.
 pub fn trim(text: &[u8]) -> &[u8]
-    ensures trimmed { result.now ≡ line.trim_front line.is_blank (line.trim_end line.is_blank text.now) }
+    ensures trimmed { result.now
+        ≡ line.trim_front line.is_blank (line.trim_end line.is_blank text.now) }
     ensures no_longer { length result.now ≤ length text.now }
 {
     trim_front(trim_end(text))

@@ -1,12 +1,10 @@
 ghost use Rattle.std.specs.Prelude.{◌≡◌, option_map, IfOk};
-ghost use Rattle.indexmap.specs.IndexMap.{keys, values};
 ghost use Rattle.gl_text.specs.Flattening.{excess_in};
-ghost use Rattle.gl_deck.specs.Bodies.{bodies_value, names_of};
+ghost use Rattle.gl_deck.specs.Bodies.{bodies_value};
 ghost use Rattle.gl_size.specs.Excesses.{fault_of_excess};
 
 use crate::limits::{CARDS, DEVICES};
-use crate::{Body, Memory, Name, Sizes, Sub};
-use indexmap::IndexMap;
+use crate::{Body, Memory, Sizes, Subs};
 use std::alloc::Global;
 
 /// Why a deck is not expanded. The first comes first.
@@ -21,13 +19,9 @@ pub enum Excess {
 }
 
 /// What cards exceed that are to be expanded with all that they call, by these subcircuits.
-pub fn first_excess(
-    alloc: Global,
-    subs: &IndexMap<Name, Sub>,
-    cards: &[Body],
-) -> Result<Option<Excess>, Memory>
-    requires keyed { keys subs.now ≡ names_of (values subs.now) }
-    ensures first { IfOk result (λ e. option_map fault_of_excess e ≡ excess_in (values subs.now) (bodies_value cards.now)) }
+pub fn first_excess(alloc: Global, subs: &Subs, cards: &[Body]) -> Result<Option<Excess>, Memory>
+    ensures first { IfOk result
+        (λ e. option_map fault_of_excess e ≡ excess_in subs.now (bodies_value cards.now)) }
 {
     let sizes = Sizes::of(alloc, subs)?;
     if sizes.is_too_deep(subs, cards) {

@@ -12,5 +12,5 @@ mod tally;
 mod tests;
 
 pub use excess::{Excess, first_excess};
-pub use gl_deck::{Body, Memory, Name, Sub};
+pub use gl_deck::{Body, Memory, Name, Sub, Subs};
 pub use sizes::Sizes;

@@ -43,7 +43,8 @@ fn deeper_counts(
     tallies: &[Tally],
     counts: &[u32],
 ) -> Result<Vec<u32>, AllocError>
-    ensures counts { IfOk result (λ v. v.items ≡ map (count_through counted counts.now) tallies.now) }
+    ensures counts { IfOk result
+        (λ v. v.items ≡ map (count_through counted counts.now) tallies.now) }
 {
     tallies
         .iter()

@@ -1,7 +1,6 @@
 ghost use Rattle.std.specs.Prelude.{◌≡◌, ◌+◌, [], ◌∷◌, min, not, IfOk};
-ghost use Rattle.indexmap.specs.IndexMap.{keys, values};
 ghost use Rattle.gl_text.specs.Flattening.{at_depth, count, is_none_left, one, one_device, CARDS, DEPTH, DEVICES};
-ghost use Rattle.gl_deck.specs.Bodies.{bodies_value, names_of};
+ghost use Rattle.gl_deck.specs.Bodies.{bodies_value};
 ghost use Rattle.gl_size.specs.Counts.{counts_of, most_of, own_of};
 ghost use Rattle.gl_size.specs.Excesses.{AreSizes};
 ghost use Rattle.gl_deck.specs.Places.{calls_of};
@@ -11,9 +10,8 @@ use crate::chains::{deep, is_marked};
 use crate::counted::{Counted, add};
 use crate::rounds::counts;
 use crate::tally::tallies;
-use crate::{Body, Memory, Name, Sub};
+use crate::{Body, Memory, Subs};
 use gl_deck::called_place;
-use indexmap::IndexMap;
 use std::alloc::Global;
 use std::marker::Model;
 
@@ -38,9 +36,8 @@ impl Model for Sizes {
 
 impl Sizes {
     /// The sizes of these subcircuits. It takes some 32 times as many steps as there are X cards, and names are looked up once.
-    pub fn of(alloc: Global, subs: &IndexMap<Name, Sub>) -> Result<Sizes, Memory>
-        requires keyed { keys subs.now ≡ names_of (values subs.now) }
-        ensures of { IfOk result (AreSizes (values subs.now)) }
+    pub fn of(alloc: Global, subs: &Subs) -> Result<Sizes, Memory>
+        ensures of { IfOk result (AreSizes subs.now) }
     {
         let tallies = tallies(alloc, subs)?;
         Ok(Sizes {
@@ -51,37 +48,35 @@ impl Sizes {
     }
 
     /// How many devices and X cards these expand to with all that they call, at most 400,001. It takes no memory.
-    pub fn cards(&self, subs: &IndexMap<Name, Sub>, cards: &[Body]) -> u32
-        requires keyed { keys subs.now ≡ names_of (values subs.now) }
-        requires of { AreSizes (values subs.now) self.now }
-        ensures count { result ≡ min (count one (values subs.now) (bodies_value cards.now)) (CARDS + 1) }
+    pub fn cards(&self, subs: &Subs, cards: &[Body]) -> u32
+        requires of { AreSizes subs.now self.now }
+        ensures count { result ≡ min (count one subs.now (bodies_value cards.now)) (CARDS + 1) }
     {
         total(Counted::Cards, &self.cards, subs, cards)
     }
 
     /// How many devices these expand to with all that they call, at most 200,001. It takes no memory.
-    pub fn devices(&self, subs: &IndexMap<Name, Sub>, cards: &[Body]) -> u32
-        requires keyed { keys subs.now ≡ names_of (values subs.now) }
-        requires of { AreSizes (values subs.now) self.now }
-        ensures count { result ≡ min (count one_device (values subs.now) (bodies_value cards.now)) (DEVICES + 1) }
+    pub fn devices(&self, subs: &Subs, cards: &[Body]) -> u32
+        requires of { AreSizes subs.now self.now }
+        ensures count { result ≡ min (count one_device subs.now (bodies_value cards.now))
+            (DEVICES + 1) }
     {
         total(Counted::Devices, &self.devices, subs, cards)
     }
 
     /// A chain of 33 X cards begins with one of these. It takes no memory.
-    pub fn is_too_deep(&self, subs: &IndexMap<Name, Sub>, cards: &[Body]) -> bool
-        requires keyed { keys subs.now ≡ names_of (values subs.now) }
-        requires of { AreSizes (values subs.now) self.now }
-        ensures deep { result ≡ not (is_none_left (at_depth (values subs.now) (bodies_value cards.now) DEPTH)) }
+    pub fn is_too_deep(&self, subs: &Subs, cards: &[Body]) -> bool
+        requires of { AreSizes subs.now self.now }
+        ensures deep { result
+            ≡ not (is_none_left (at_depth subs.now (bodies_value cards.now) DEPTH)) }
     {
         call_marked(&self.deep, subs, cards)
     }
 }
 
 /// What a card's subcircuit counts, where these are the counts of all subcircuits.
-fn called_count(counts: &[u32], subs: &IndexMap<Name, Sub>, card: &Body) -> u32
-    requires keyed { keys subs.now ≡ names_of (values subs.now) }
-    ensures count { result ≡ sum_at counts.now (calls_of (values subs.now) (bodies_value (card.now ∷ []))) }
+fn called_count(counts: &[u32], subs: &Subs, card: &Body) -> u32
+    ensures count { result ≡ sum_at counts.now (calls_of subs.now (bodies_value (card.now ∷ []))) }
 {
     match called_place(subs, card) {
         Some(place) => counts.get(place).copied().unwrap_or(0),
@@ -90,9 +85,9 @@ fn called_count(counts: &[u32], subs: &IndexMap<Name, Sub>, card: &Body) -> u32
 }
 
 /// What the subcircuits count together that cards call, at most `most`, where these are the counts of all subcircuits.
-fn called_total(counts: &[u32], subs: &IndexMap<Name, Sub>, cards: &[Body], most: u32) -> u32
-    requires keyed { keys subs.now ≡ names_of (values subs.now) }
-    ensures total { result ≡ min (sum_at counts.now (calls_of (values subs.now) (bodies_value cards.now))) most }
+fn called_total(counts: &[u32], subs: &Subs, cards: &[Body], most: u32) -> u32
+    ensures total { result
+        ≡ min (sum_at counts.now (calls_of subs.now (bodies_value cards.now))) most }
 {
     let mut total = 0;
     let mut rest = cards;
@@ -104,10 +99,10 @@ fn called_total(counts: &[u32], subs: &IndexMap<Name, Sub>, cards: &[Body], most
 }
 
 /// What cards count with all that they call, at most one more than there may be.
-fn total(counted: Counted, counts: &[u32], subs: &IndexMap<Name, Sub>, cards: &[Body]) -> u32
-    requires keyed { keys subs.now ≡ names_of (values subs.now) }
-    requires of { counts.now ≡ counts_of counted (values subs.now) DEPTH }
-    ensures total { result ≡ min (count (own_of counted) (values subs.now) (bodies_value cards.now)) (most_of counted) }
+fn total(counted: Counted, counts: &[u32], subs: &Subs, cards: &[Body]) -> u32
+    requires of { counts.now ≡ counts_of counted subs.now DEPTH }
+    ensures total { result ≡ min (count (own_of counted) subs.now (bodies_value cards.now))
+        (most_of counted) }
 {
     let most = counted.most();
     let called = called_total(counts, subs, cards, most);
@@ -115,9 +110,9 @@ fn total(counted: Counted, counts: &[u32], subs: &IndexMap<Name, Sub>, cards: &[
 }
 
 /// A card calls a subcircuit that is marked.
-fn calls_marked(marks: &[bool], subs: &IndexMap<Name, Sub>, card: &Body) -> bool
-    requires keyed { keys subs.now ≡ names_of (values subs.now) }
-    ensures marked { result ≡ has_mark marks.now (calls_of (values subs.now) (bodies_value (card.now ∷ []))) }
+fn calls_marked(marks: &[bool], subs: &Subs, card: &Body) -> bool
+    ensures marked { result ≡ has_mark marks.now
+        (calls_of subs.now (bodies_value (card.now ∷ []))) }
 {
     match called_place(subs, card) {
         Some(place) => is_marked(marks, place),
@@ -126,9 +121,8 @@ fn calls_marked(marks: &[bool], subs: &IndexMap<Name, Sub>, card: &Body) -> bool
 }
 
 /// One of the cards calls a subcircuit that is marked.
-fn call_marked(marks: &[bool], subs: &IndexMap<Name, Sub>, cards: &[Body]) -> bool
-    requires keyed { keys subs.now ≡ names_of (values subs.now) }
-    ensures marked { result ≡ has_mark marks.now (calls_of (values subs.now) (bodies_value cards.now)) }
+fn call_marked(marks: &[bool], subs: &Subs, cards: &[Body]) -> bool
+    ensures marked { result ≡ has_mark marks.now (calls_of subs.now (bodies_value cards.now)) }
 {
     let mut rest = cards;
     while let [card, behind @ ..] = rest {

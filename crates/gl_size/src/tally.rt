@@ -1,14 +1,12 @@
 ghost use Rattle.std.specs.Prelude.{◌≡◌, IfOk};
-ghost use Rattle.indexmap.specs.IndexMap.{keys, values};
 ghost use Rattle.std.specs.List.{IsDistinct};
 ghost use Rattle.gl_text.specs.LogicalLines.{same_text};
 ghost use Rattle.gl_deck.specs.Bodies.{bodies_value, names_of};
 ghost use Rattle.gl_size.specs.Tallies.{own_in, tallies_of, tally_of};
 
 use crate::counted::Counted;
-use crate::{Body, Name, Sub};
+use crate::{Body, Subs};
 use gl_deck::called_places;
-use indexmap::IndexMap;
 use std::alloc::{AllocError, Global};
 use std::marker::Model;
 
@@ -33,9 +31,8 @@ impl Model for Tally {
 
 impl Tally {
     /// What is kept of a subcircuit of these cards.
-    fn of(alloc: Global, subs: &IndexMap<Name, Sub>, cards: &[Body]) -> Result<Tally, AllocError>
-        requires keyed { keys subs.now ≡ names_of (values subs.now) }
-        ensures tally { IfOk result (λ t. t ≡ tally_of (values subs.now) (bodies_value cards.now)) }
+    fn of(alloc: Global, subs: &Subs, cards: &[Body]) -> Result<Tally, AllocError>
+        ensures tally { IfOk result (λ t. t ≡ tally_of subs.now (bodies_value cards.now)) }
     {
         Ok(Tally {
             cards: Counted::Cards.own_total(cards),
@@ -63,13 +60,12 @@ impl Tally {
 }
 
 /// What is kept of each subcircuit.
-pub fn tallies(alloc: Global, subs: &IndexMap<Name, Sub>) -> Result<Vec<Tally>, AllocError>
-    requires keyed { keys subs.now ≡ names_of (values subs.now) }
-    ensures tallies { IfOk result (λ v. v.items ≡ tallies_of (values subs.now)) }
-    ensures names_differ { IfOk result (λ v. IsDistinct same_text (names_of (values subs.now))) }
+pub fn tallies(alloc: Global, subs: &Subs) -> Result<Vec<Tally>, AllocError>
+    ensures tallies { IfOk result (λ v. v.items ≡ tallies_of subs.now) }
+    ensures names_differ { IfOk result (λ v. IsDistinct same_text (names_of subs.now)) }
 {
     let mut tallies = Vec::with_capacity(alloc, subs.len())?;
-    let mut rest = subs.values().as_slice();
+    let mut rest = subs.as_slice();
     while let [sub, behind @ ..] = rest {
         tallies.push(Tally::of(alloc, subs, sub.cards())?)?;
         rest = behind;

@@ -1,5 +1,4 @@
 use Rattle.std.proofs.Common.{◌≡◌, ◌<◌, ◌∙◌, ap, sym, arith}
-use Rattle.indexmap.specs.IndexMap.{values}
 use Rattle.gl_text.specs.Cards.{Head}
 use Rattle.gl_deck.specs.Ranks.{rank_in}
 use Rattle.gl_deck.proofs.UpLaws.{not_up}
@@ -7,7 +6,7 @@ use Rattle.gl_deck.proofs.calls.leads_to.Goals as goal
 
 pub returns-then-rank_of : goal.returns-then-rank_of
 returns-then-rank_of c =
-    let subs = values c.args.subs.now in
+    let subs = c.args.subs.now in
     let t = c.args.target.now in
     let ranks = c.args.ranks.now in
     let rank = rank_in subs ranks in

@@ -12,7 +12,7 @@ returns-clause-ok c =
     let a = one_more passed_line out _ out _ _ c.in_ok-put_text.ensures.ok c.title.ensures.title refl in
     let b = one_more (flat_map global_line) _ _ _ _ _ c.in_ok-put_globals.ensures.ok c.globals.ensures.globals a in
     let e = one_more (flat_map model_line) _ _ _ _ _ c.in_ok-put_models.ensures.ok c.models.ensures.models b in
-    let f = one_more (flat_map sub_text) _ _ _ _ _ c.in_ok-put_subs.ensures.ok (c.as_slice.ensures ∙ c.values.ensures.rest ∙ c.subs.ensures.subs) e in
+    let f = one_more (flat_map sub_text) _ _ _ _ _ c.in_ok-put_subs.ensures.ok (c.as_slice.ensures.subs ∙ c.subs.ensures.subs) e in
     let g = one_more (flat_map body_line) _ _ _ _ _ c.in_ok-put_bodies.ensures.ok c.top.ensures.top f in
     let h = one_more (flat_map passed_line) _ _ _ _ _ c.in_ok-put_all_passed.ensures.ok c.passed.ensures.passed g in
     c.in_ok-put_text-2.ensures.ok ∙ ap (λ t. t ++ line_of ended) h

@@ -1,7 +1,6 @@
 use Rattle.std.proofs.Common.{◌≡◌, ◌∙◌, ℕ, List, [], ◌∷◌, ◌++◌, sym, ap, subst, length, get_or, set, take, drop, ◌-◌, arith, refl}
-use Rattle.std.proofs.lemmas.List.{length-map, append-nil, take_all, drop_all}
+use Rattle.std.proofs.lemmas.List.{append-nil, take_all, drop_all}
 use Rattle.std.specs.List.{IsDistinct}
-use Rattle.indexmap.specs.IndexMap.{values}
 use Rattle.gl_text.specs.LogicalLines.{same_text}
 use Rattle.gl_deck.specs.Bodies.{names_of}
 use Rattle.gl_deck.specs.CallCounts.{uncalled_at}
@@ -12,10 +11,9 @@ use Rattle.gl_deck.proofs.ranks.ranks.Goals as goal
 
 pub loop-place-init : goal.loop-place-init
 loop-place-init c =
-    let subs = values c.args.subs.now in
-    let size = sym (length-map c.args.subs.now.entries (λ e. e.1)) in
+    let subs = c.args.subs.now in
     begins_with subs c.in_ok-calls.calls.items c.in_ok-ready.ready.items c.in_ok-ranks.ranks.items c.len.result c.len-next.result
-    (c.len.ensures.len ∙ size) (c.in_ok-ranks.ensures.items_if_clones_equal (λ y h. h)) (c.len-next.ensures.len ∙ size)
+    c.len.ensures.len (c.in_ok-ranks.ensures.items_if_clones_equal (λ y h. h)) c.len-next.ensures.len
     c.in_ok-calls.ensures.sized c.in_ok-calls.ensures.counted (λ p. c.in_ok-ready.ensures.each_once p ∙ ap (λ xs. uncalled_at xs p) c.deref.ensures.value)
 
 pub index_mut-requires : goal.index_mut-requires
@@ -42,7 +40,7 @@ back new old n e f = ap (λ xs. take n (new ++ xs)) (drop_all (length new) old (
 
 pub loop-place-preserved : goal.loop-place-preserved
 loop-place-preserved c =
-    let subs = values c.args.subs.now in
+    let subs = c.args.subs.now in
     let old = c.loop-place.calls.items in
     let new = c.release_calls.new.calls in
     let ranks = c.loop-place.ranks.items in
@@ -55,8 +53,8 @@ loop-place-preserved c =
 
 pub returns-clause-not_up : goal.returns-clause-not_up
 returns-clause-not_up c =
-    let distinct : IsDistinct same_text (names_of (values c.args.subs.now)) = subst (λ (names : List (List ℕ)). IsDistinct same_text names) c.requires.keyed c.len.ensures.unique in
-    none_up (values c.args.subs.now) c.loop-place.ranks.items distinct c.loop-place.invariant.ordered
+    let distinct : IsDistinct same_text (names_of c.args.subs.now) = c.len.ensures.names_differ in
+    none_up c.args.subs.now c.loop-place.ranks.items distinct c.loop-place.invariant.ordered
 
 nothing : (xs : List ℕ) → length xs ≡ 0 → xs ≡ []
 nothing [] e = refl
@@ -65,6 +63,6 @@ nothing (x ∷ xs) e = absurd (omega (arith, e))
 pub returns-clause-down : goal.returns-clause-down
 returns-clause-down c = λ none.
     let ready = c.loop-place.ready in
-    let distinct : IsDistinct same_text (names_of (values c.args.subs.now)) = subst (λ (names : List (List ℕ)). IsDistinct same_text names) c.requires.keyed c.len.ensures.unique in
+    let distinct : IsDistinct same_text (names_of c.args.subs.now) = c.len.ensures.names_differ in
     let empty : ready.items ≡ [] = nothing ready.items (let e = c.in_default.ensures.cases.0 in let own = ready.ok.0 in omega (arith, e, own)) in
-    all_down (values c.args.subs.now) c.loop-place.calls.items ready.items c.loop-place.ranks.items c.loop-place.next distinct c.loop-place.invariant empty none
+    all_down c.args.subs.now c.loop-place.calls.items ready.items c.loop-place.ranks.items c.loop-place.next distinct c.loop-place.invariant empty none

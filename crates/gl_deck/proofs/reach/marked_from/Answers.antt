@@ -1,8 +1,7 @@
 use Rattle.std.proofs.Common.{◌≡◌, ◌∙◌, ap, sym, subst, List, ℕ, [], ◌∷◌, length, refl, inl, ◌<◌}
-use Rattle.std.proofs.lemmas.List.{length-map, append-nil}
+use Rattle.std.proofs.lemmas.List.{append-nil}
 use Rattle.std.specs.Prelude.{slice_get}
 use Rattle.std.specs.List.{IsDistinct}
-use Rattle.indexmap.specs.IndexMap.{values}
 use Rattle.gl_text.specs.LogicalLines.{same_text}
 use Rattle.gl_text.specs.Cards.{Head}
 use Rattle.gl_text.specs.Decks.{steps}
@@ -17,12 +16,12 @@ use Rattle.gl_deck.proofs.reach.marked_from.Goals as goal
 
 pub loop-place-init : goal.loop-place-init
 loop-place-init c =
-    let subs = values c.args.subs.now in
+    let subs = c.args.subs.now in
     let t = c.args.target.now in
     let found = steps subs (length subs) (t ∷ []) in
-    let distinct : IsDistinct same_text (names_of subs) = subst (λ (names : List (List ℕ)). IsDistinct same_text names) c.requires.keyed c.len.ensures.unique in
+    let distinct : IsDistinct same_text (names_of subs) = c.len.ensures.names_differ in
     let is = among_in t subs c.requires.among in
-    let sized : length c.in_ok-walk.walk.marks ≡ length subs = c.in_ok-walk.ensures.sized ∙ c.len.ensures.len ∙ sym (length-map c.args.subs.now.entries (λ e. e.1)) in
+    let sized : length c.in_ok-walk.walk.marks ≡ length subs = c.in_ok-walk.ensures.sized ∙ c.len.ensures.len in
     let start = begins subs found t c.in_ok-walk.walk distinct is (keeps subs t (length subs) (t ∷ []) is (inl refl)) sized c.in_ok-walk.ensures.nothing c.in_ok-walk.ensures.empty in
     let name : c.name.result.now ≡ t.head.name = c.name.ensures.name ∙ ap (λ (h : Head). h.name) c.head.ensures.head in
     let new : c.mark_name.new.self ≡ marked_all subs (t.head.name ∷ []) c.in_ok-walk.walk = c.in_ok-mark_name.ensures.marked ∙ ap (λ (n : List ℕ). marked_all subs (n ∷ []) c.in_ok-walk.walk) name in
@@ -30,7 +29,7 @@ loop-place-init c =
 
 pub loop-place-smaller : goal.loop-place-smaller
 loop-place-smaller c =
-    let subs = values c.args.subs.now in
+    let subs = c.args.subs.now in
     let w = c.loop-place.walk in
     let r = c.next.new.self in
     let less = less_left subs (called_names (slice_get subs c.in-Some.place)) w r c.in-Some.place (ap length c.next.ensures.marks ∙ c.loop-place.invariant.sized) c.next.ensures.marks c.in-Some.ensures.pending in
@@ -38,7 +37,7 @@ loop-place-smaller c =
 
 pub loop-place-preserved : goal.loop-place-preserved
 loop-place-preserved c =
-    let subs = values c.args.subs.now in
+    let subs = c.args.subs.now in
     let t = c.args.target.now in
     let found = steps subs (length subs) (t ∷ []) in
     let walk = advances subs found t c.loop-place.walk c.next.new.self c.in-Some.place (settled subs t (among_in t subs c.requires.among)) c.loop-place.invariant c.next.ensures.marks c.in-Some.ensures.pending in
@@ -46,10 +45,10 @@ loop-place-preserved c =
 
 pub returns : goal.returns
 returns c =
-    let subs = values c.args.subs.now in
+    let subs = c.args.subs.now in
     let t = c.args.target.now in
     let found = steps subs (length subs) (t ∷ []) in
-    let distinct : IsDistinct same_text (names_of subs) = subst (λ (names : List (List ℕ)). IsDistinct same_text names) c.requires.keyed c.len.ensures.unique in
+    let distinct : IsDistinct same_text (names_of subs) = c.len.ensures.names_differ in
     let w = c.next.new.self in
     let same : c.loop-place.walk ≡ w = same_walk c.loop-place.walk w (sym c.next.ensures.marks) (c.in_default.ensures.pending ∙ append-nil w.pending) in
     let walk = subst (λ (v : Walk). IsWalk subs found t v) same c.loop-place.invariant in

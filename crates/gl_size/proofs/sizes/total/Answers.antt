@@ -1,6 +1,5 @@
 use Rattle.std.proofs.Common.{◌∙◌, ◌+◌, List, ℕ, min, ap}
 use Rattle.std.specs.Prelude.{sum_by, slice_index}
-use Rattle.indexmap.specs.IndexMap.{values}
 use Rattle.gl_text.specs.Decks.{callees}
 use Rattle.gl_text.specs.Flattening.{DEPTH}
 use Rattle.gl_deck.specs.Bodies.{bodies_value}
@@ -13,7 +12,7 @@ use Rattle.gl_size.proofs.sizes.total.Goals as goal
 pub returns : goal.returns
 returns c =
     let kind = c.args.counted in
-    let subs = values c.args.subs.now in
+    let subs = c.args.subs.now in
     let cards = bodies_value c.args.cards.now in
     let places = places_of subs (callees cards) in
     let own = own_count kind cards in

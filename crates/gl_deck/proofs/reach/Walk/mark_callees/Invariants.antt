@@ -1,5 +1,4 @@
 use Rattle.std.proofs.Common.{◌≡◌, length}
-use Rattle.indexmap.specs.IndexMap.{values}
 use Rattle.gl_text.specs.Decks.{callees}
 use Rattle.gl_deck.specs.Bodies.{bodies_value}
 use Rattle.gl_deck.specs.Walks.{marked_all}
@@ -7,8 +6,8 @@ use Rattle.gl_deck.proofs.reach.Walk.mark_callees.Given as goal
 
 abbrev pub invariant-loop-rest : goal.invariant-loop-rest
 invariant-loop-rest l = record {
-  marked : marked_all (values l.subs) (callees (bodies_value l.rest)) l.self ≡ marked_all (values l.subs) (callees (bodies_value l.cards)) l.fn.self;
-  sized : length l.self.marks ≡ length (values l.subs);
+  marked : marked_all l.subs (callees (bodies_value l.rest)) l.self ≡ marked_all l.subs (callees (bodies_value l.cards)) l.fn.self;
+  sized : length l.self.marks ≡ length l.subs;
 }
 
 abbrev pub decreases-loop-rest : goal.decreases-loop-rest

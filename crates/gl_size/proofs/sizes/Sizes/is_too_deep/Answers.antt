@@ -1,6 +1,5 @@
 use Rattle.std.proofs.Common.{◌∙◌, List, Bool, ap}
 use Rattle.std.specs.List.{list_any}
-use Rattle.indexmap.specs.IndexMap.{values}
 use Rattle.gl_text.specs.Decks.{callees}
 use Rattle.gl_text.specs.Flattening.{DEPTH}
 use Rattle.gl_deck.specs.Bodies.{bodies_value}
@@ -11,7 +10,7 @@ use Rattle.gl_size.proofs.sizes.Sizes.is_too_deep.Goals as goal
 
 pub returns : goal.returns
 returns c =
-    let subs = values c.args.subs.now in
+    let subs = c.args.subs.now in
     let cards = bodies_value c.args.cards.now in
     let places = places_of subs (callees cards) in
     let marks = c.deref.ensures.value ∙ ap (λ (s : Sizes). s.deep) (c.self.view_is ∙ c.requires.of.sizes) in

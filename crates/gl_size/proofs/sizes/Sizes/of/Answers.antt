@@ -1,5 +1,4 @@
 use Rattle.std.proofs.Common.{◌≡◌, ◌∙◌, List, ℕ, Bool, ap}
-use Rattle.indexmap.specs.IndexMap.{values}
 use Rattle.gl_text.specs.Flattening.{DEPTH}
 use Rattle.gl_size.specs.declared.counted.Counted.TheVariants as counted
 use Rattle.gl_size.specs.Excesses.{Sizes}
@@ -15,7 +14,7 @@ same_sizes a b c d e f x y z = ap (λ k. sizes_by k c e) x ∙ ap (λ k. sizes_b
 
 pub returns : goal.returns
 returns c =
-    let subs = values c.args.subs.now in
+    let subs = c.args.subs.now in
     let differ = c.in_ok-tallies.ensures.names_differ in
     let cards = c.in_ok-counts.ensures.counts subs (c.deref.ensures.value ∙ c.in_ok-tallies.ensures.tallies) in
     let devices = c.in_ok-counts-2.ensures.counts subs (c.deref-2.ensures.value ∙ c.in_ok-tallies.ensures.tallies) in
