@@ -3,7 +3,7 @@ use Rattle.std.proofs.Common.{◌≡◌, ◌+◌, ◌<◌, ◌≤◌, ◌∙◌,
 use Rattle.std.specs.Prelude.{max, not, ◌||◌, find, is_some, option_map, option_to_list, slice_index, slice_index_or, unwrap_or}
 use Rattle.std.specs.List.{position_or_len}
 use Rattle.std.proofs.Math.ListN.{replicate}
-use Rattle.std.proofs.lemmas.Bool.Decides.{nat_tests}
+use Rattle.std.proofs.lemmas.Bool.{ltb-false}
 use Rattle.std.proofs.lemmas.List.{get_or_past, length-map}
 use Rattle.std.proofs.lemmas.List.Folds.{list_any-append}
 use Rattle.gl_text.specs.LogicalLines.{same_text}
@@ -45,9 +45,6 @@ placed_by : {A : Type 0} (none : A) (b : Bool) (xs : List A) (k : ℕ) → (b �
 placed_by none true xs k h = refl
 placed_by none false xs k h = h refl
 
-past : (n k : ℕ) → ltb k n ≡ false → n ≤ k
-past n k h = grind (arith, nat_tests)
-
 -- the value of the cell of a name stands at its place among the values of all
 placed : {A : Type 0} (none : A) (f : Sub → A) (subs : List Sub) (name : List ℕ) → of_found none f (find_sub subs name) ≡ at_place none (map f subs) (place_in subs name)
 placed none f subs name =
@@ -56,7 +53,7 @@ placed none f subs name =
     let a = length-map subs f in
     let b = length-map subs (λ (s : Sub). s.head.name) in
     found_at none f subs name
-    ∙ placed_by none (ltb k (length names)) (map f subs) k (λ off. get_or_past (map f subs) k none (let d = past (length names) k off in omega arith))
+    ∙ placed_by none (ltb k (length names)) (map f subs) k (λ off. get_or_past (map f subs) k none (let d = ltb-false k (length names) off in omega arith))
 
 -- ---- levels
 

@@ -5,11 +5,8 @@ use Rattle.std.specs.List.{AllByRecursion}
 use Rattle.gl_text.specs.LogicalLines.{same_text}
 use Rattle.gl_text.specs.Decks.{Sub, callees, find_sub}
 use Rattle.gl_text.specs.Levels.{Down}
-use Rattle.std.specs.Cmp.Lexicographic.{bytes_decides}
+use Rattle.gl_text.proofs.Names.{exact}
 use Rattle.gl_base.specs.Libraries.{greatest, above, level_through, level_of, own_skip, is_called, uses_else, skip_by, is_skipped_through, skip_of}
-
-exact : (x y : List ℕ) → same_text x y ≡ true → x ≡ y
-exact x y = (bytes_decides x y).0
 
 module _ (rank : List ℕ → ℕ) where
   abbrev Found : List ℕ → Sub → Type 0

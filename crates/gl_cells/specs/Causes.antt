@@ -1,5 +1,5 @@
 -- What a refusal of the code means, and what reading a library gives.
-use Rattle.std.specs.Prelude.{Option, Some, None, Result}
+use Rattle.std.specs.Prelude.{ℕ, List, nat_lt, Option, Some, None, Result}
 use Rattle.gl_fault.specs.Refusals as answers
 use Rattle.gl_text.specs.LogicalLines as lines
 use Rattle.gl_base.specs.Libraries as libraries
@@ -42,6 +42,18 @@ cause_of (faults.TopCard line) = Some (top_card line)
 cause_of (faults.CellLimit cell what number) = Some (cell_limit cell (limit_of what) number)
 cause_of (faults.CellClash cell name) = Some (cell_clash cell name)
 cause_of faults.Memory = None
+
+-- a refusal of the code is the one that there is, or want of memory
+abbrev pub IsCauseIn : Option Cause → LibFault → Type 0
+IsCauseIn found fault = answers.IsFound (cause_of fault) found
+
+-- the cause where a number of a cell is past a limit
+abbrev pub past_limit : List ℕ → Limit → ℕ → ℕ → Option Cause
+past_limit cell what number most = answers.when (nat_lt most number) (cell_limit cell (limit_of what) number)
+
+-- there is a refusal exactly where one is wanted, and it is that one
+abbrev pub Refuses : Option LibFault → Option Cause → Type 0
+Refuses = answers.Refuses cause_of
 
 -- the value exactly where one is wanted, and it is that one; else the wanted refusal; want of memory may come in place of either
 abbrev pub Gives : {V : Type 0} → Result V LibFault → Result V Cause → Type 0

@@ -55,6 +55,6 @@ impl Library {
     pub fn first_call(&self) -> Option<u32>
         ensures first { result ≡ first_call_of self.now.deck }
     {
-        first_of_cells(self.deck().subs().values().as_slice())
+        first_of_cells(self.deck().subs().as_slice())
     }
 }

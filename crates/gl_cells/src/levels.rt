@@ -19,7 +19,8 @@ fn above(levels: &[u32], place: usize) -> u32
 /// One more than the greatest level of the cells at these places; 0 without any.
 fn level_over(levels: &[u32], places: &[usize]) -> u32
     requires low { (place : ℕ) → slice_index levels.now place ≤ CELLS }
-    ensures level { result ≡ greatest (map (λ place. suc (slice_index levels.now place)) places.now) }
+    ensures level { result ≡ greatest (map (λ place. suc (slice_index levels.now place))
+        places.now) }
 {
     let mut level = 0;
     let mut rest = places;
@@ -47,7 +48,8 @@ fn deeper_levels(alloc: Global, cells: &[Outline], levels: &[u32]) -> Result<Vec
 /// The level of each cell. It takes as many steps as there are X cards, for each cell.
 pub fn levels(alloc: Global, cells: &[Outline]) -> Result<Vec<u32>, AllocError>
     requires few { length cells.now ≤ CELLS }
-    ensures levels { IfOk result (λ v. (subs : List Sub) → cells.now ≡ outlines_of subs → v.items ≡ map (level_of subs) subs) }
+    ensures levels { IfOk result (λ v. (subs : List Sub) → cells.now ≡ outlines_of subs
+        → v.items ≡ map (level_of subs) subs) }
 {
     let mut levels = vec![in alloc; 0; cells.len()]?;
     for calls in 0..cells.len() {

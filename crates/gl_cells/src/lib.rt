@@ -15,11 +15,9 @@ mod ports;
 mod read;
 mod skip;
 mod skips;
-#[cfg(test)]
-mod tests;
 
 pub use fault::{LibFault, Limit};
-pub use gl_deck::{Body, Deck, DeckFault, Name, Sub};
+pub use gl_deck::{Body, Deck, DeckFault, Name, Sub, Subs};
 pub use known::read_libraries_are_known;
 pub use laws::{
     level_rows, levels_and_skips_are_settled, limit_rows, read_decks_have_ranks, refusal_rows,

@@ -1,17 +1,13 @@
 //! The limits on a cell.
-ghost use Rattle.std.specs.Prelude.{◌≡◌, ◌+◌, None, min, nat_lt, IfErr, OnOk};
-ghost use Rattle.indexmap.specs.IndexMap.{keys, values};
+ghost use Rattle.std.specs.Prelude.{◌≡◌, ◌+◌, None, min, IfErr, OnOk};
 ghost use Rattle.gl_text.specs.Flattening.{count, one};
-ghost use Rattle.gl_deck.specs.Bodies.{names_of};
 ghost use Rattle.gl_size.specs.Excesses.{AreSizes};
-ghost use Rattle.gl_fault.specs.Refusals.{when, IsFound};
-ghost use Rattle.gl_base.specs.Libraries.{CELL_EXPANDED as MOST_EXPANDED, cell_limit, level_of, limit_cause};
-ghost use Rattle.gl_cells.specs.Causes.{cause_of, limit_of};
+ghost use Rattle.gl_base.specs.Libraries.{CELL_EXPANDED as MOST_EXPANDED, level_of, limit_cause};
+ghost use Rattle.gl_cells.specs.Causes.{IsCauseIn, past_limit};
 ghost use Rattle.gl_cells.specs.Limited.{IsCountable};
 
-use crate::{LibFault, Limit, Name, Sub};
+use crate::{LibFault, Limit, Name, Sub, Subs};
 use gl_size::Sizes;
-use indexmap::IndexMap;
 use std::alloc::Global;
 
 /// The most devices and X cards that a cell may have.
@@ -34,8 +30,8 @@ fn refuse_more(
     number: u32,
     most: u32,
 ) -> Result<(), LibFault>
-    ensures ok { OnOk result (when (nat_lt most number) (cell_limit cell.now (limit_of what) number) ≡ None) }
-    ensures refused { IfErr result (λ fault. IsFound (cause_of fault) (when (nat_lt most number) (cell_limit cell.now (limit_of what) number))) }
+    ensures ok { OnOk result (past_limit cell.now what number most ≡ None) }
+    ensures refused { IfErr result (IsCauseIn (past_limit cell.now what number most)) }
 {
     if number > most {
         let cell = Name::of(alloc, cell.as_bytes())?;
@@ -45,10 +41,9 @@ fn refuse_more(
 }
 
 /// To how many cards a cell expands, itself not counted, or one more than may be where that's less.
-fn expanded(subs: &IndexMap<Name, Sub>, sizes: &Sizes, cell: &Sub) -> u32
-    requires keyed { keys subs.now ≡ names_of (values subs.now) }
-    requires of { AreSizes (values subs.now) sizes.now }
-    ensures expanded { result ≡ min (count one (values subs.now) cell.now.cards) (MOST_EXPANDED + 1) }
+fn expanded(subs: &Subs, sizes: &Sizes, cell: &Sub) -> u32
+    requires of { AreSizes subs.now sizes.now }
+    ensures expanded { result ≡ min (count one subs.now cell.now.cards) (MOST_EXPANDED + 1) }
 {
     sizes.cards(subs, cell.cards()).min(CELL_EXPANDED + 1)
 }
@@ -56,17 +51,16 @@ fn expanded(subs: &IndexMap<Name, Sub>, sizes: &Sizes, cell: &Sub) -> u32
 /// Refuses a cell of this level that breaks a limit: devices before ports, then the level, then cards to which it expands.
 pub fn refuse_limits(
     alloc: Global,
-    subs: &IndexMap<Name, Sub>,
+    subs: &Subs,
     sizes: &Sizes,
     level: u32,
     cell: &Sub,
 ) -> Result<(), LibFault>
-    requires keyed { keys subs.now ≡ names_of (values subs.now) }
-    requires of { AreSizes (values subs.now) sizes.now }
-    requires level { level ≡ level_of (values subs.now) cell.now }
+    requires of { AreSizes subs.now sizes.now }
+    requires level { level ≡ level_of subs.now cell.now }
     requires few { IsCountable cell.now }
-    ensures ok { OnOk result (limit_cause (values subs.now) cell.now ≡ None) }
-    ensures refused { IfErr result (λ fault. IsFound (cause_of fault) (limit_cause (values subs.now) cell.now)) }
+    ensures ok { OnOk result (limit_cause subs.now cell.now ≡ None) }
+    ensures refused { IfErr result (IsCauseIn (limit_cause subs.now cell.now)) }
 {
     let name = cell.head().name();
     let devices = cell.cards().len() as u32;

@@ -1,12 +1,9 @@
 ghost use Rattle.std.specs.Prelude.{◌≡◌, IfOk};
-ghost use Rattle.indexmap.specs.IndexMap.{keys, values};
-ghost use Rattle.gl_deck.specs.Bodies.{names_of};
 ghost use Rattle.gl_cells.specs.Outlines.{outline_of, outlines_of};
 
 use crate::ports::own_skip;
-use crate::{Name, Sub};
+use crate::{Sub, Subs};
 use gl_deck::called_places;
-use indexmap::IndexMap;
 use std::alloc::{AllocError, Global};
 use std::marker::Model;
 
@@ -29,9 +26,8 @@ impl Model for Outline {
 
 impl Outline {
     /// What is kept of a cell.
-    fn of(alloc: Global, subs: &IndexMap<Name, Sub>, cell: &Sub) -> Result<Outline, AllocError>
-        requires keyed { keys subs.now ≡ names_of (values subs.now) }
-        ensures outline { IfOk result (λ o. o ≡ outline_of (values subs.now) cell.now) }
+    fn of(alloc: Global, subs: &Subs, cell: &Sub) -> Result<Outline, AllocError>
+        ensures outline { IfOk result (λ o. o ≡ outline_of subs.now cell.now) }
     {
         Ok(Outline {
             skipped: own_skip(alloc, cell)?.is_some(),
@@ -55,12 +51,11 @@ impl Outline {
 }
 
 /// What is kept of each cell, in order.
-pub fn outlines(alloc: Global, subs: &IndexMap<Name, Sub>) -> Result<Vec<Outline>, AllocError>
-    requires keyed { keys subs.now ≡ names_of (values subs.now) }
-    ensures outlines { IfOk result (λ v. v.items ≡ outlines_of (values subs.now)) }
+pub fn outlines(alloc: Global, subs: &Subs) -> Result<Vec<Outline>, AllocError>
+    ensures outlines { IfOk result (λ v. v.items ≡ outlines_of subs.now) }
 {
     let mut outlines = Vec::with_capacity(alloc, subs.len())?;
-    let mut rest = subs.values().as_slice();
+    let mut rest = subs.as_slice();
     while let [cell, behind @ ..] = rest {
         outlines.push(Outline::of(alloc, subs, cell)?)?;
         rest = behind;

@@ -35,7 +35,8 @@ fn add_names(alloc: Global, known: &mut IndexSet<Name>, names: &[Name]) -> Resul
 
 /// The nets of cards.
 fn nets(alloc: Global, cards: &[Body]) -> Result<IndexSet<Name>, AllocError>
-    ensures nets { IfOk result (λ nets. nets.keys ≡ insert_all same_text [] (flat_map nodes_of (bodies_value cards.now))) }
+    ensures nets { IfOk result (λ nets. nets.keys
+        ≡ insert_all same_text [] (flat_map nodes_of (bodies_value cards.now))) }
 {
     let mut nets = IndexSet::new(alloc);
     for card in cards {

@@ -2,12 +2,11 @@ ghost use Rattle.std.specs.Prelude.{◌≡◌, ◌≤◌, None, length, map, IfE
 ghost use Rattle.gl_text.specs.LogicalLines.{FILE};
 ghost use Rattle.gl_printed.specs.ReadDecks.{IsReadDeck};
 ghost use Rattle.gl_base.specs.Libraries.{cell_of, library_cause, read_library};
-ghost use Rattle.gl_fault.specs.Refusals.{IsFound};
-ghost use Rattle.gl_cells.specs.Causes.{cause_of, Gives};
+ghost use Rattle.gl_cells.specs.Causes.{Gives, IsCauseIn};
 ghost use Rattle.gl_cells.specs.KnownLibraries.{IsKnownLibrary};
 ghost use Rattle.gl_cells.specs.Limited.{AreCountable};
 
-use crate::cells::{cells_within_limits, refuse_cells, refuse_top};
+use crate::cells::{cells_within_limits, refuse_cells, top_refusal};
 use crate::clashes::refuse_clashes;
 use crate::known::read_libraries_are_known;
 use crate::{Deck, LibCell, LibFault, Library};
@@ -19,11 +18,13 @@ fn judged(alloc: Global, deck: &Deck) -> Result<Vec<LibCell>, LibFault>
     requires few { AreCountable deck.now.subs }
     ensures accepted { OnOk result (library_cause deck.now ≡ None) }
     ensures cells { IfOk result (λ v. v.items ≡ map (cell_of deck.now.subs) deck.now.subs) }
-    ensures refused { IfErr result (λ fault. IsFound (cause_of fault) (library_cause deck.now)) }
+    ensures refused { IfErr result (IsCauseIn (library_cause deck.now)) }
 {
     let subs = deck.subs();
-    refuse_top(deck.top())?;
-    refuse_cells(alloc, subs.values().as_slice())?;
+    if let Some(fault) = top_refusal(deck.top()) {
+        return Err(fault);
+    }
+    refuse_cells(alloc, subs.as_slice())?;
     let cells = cells_within_limits(alloc, subs)?;
     refuse_clashes(alloc, subs, deck.globals())?;
     Ok(cells)

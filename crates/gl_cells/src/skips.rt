@@ -1,9 +1,8 @@
 //! The cells that are skipped.
 ghost use Rattle.std.specs.Prelude.{◌≡◌, [], ◌∷◌, false, List, length, map, option_map, option_to_list, slice_index_or, IfOk};
 ghost use Rattle.std.specs.Option.{option_copied};
-ghost use Rattle.indexmap.specs.IndexMap.{keys, values};
 ghost use Rattle.gl_text.specs.Decks.{Sub as SubValue};
-ghost use Rattle.gl_deck.specs.Bodies.{bodies_value, names_of};
+ghost use Rattle.gl_deck.specs.Bodies.{bodies_value};
 ghost use Rattle.gl_deck.specs.Places.{place_in};
 ghost use Rattle.gl_size.specs.Tallies.{has_mark};
 ghost use Rattle.gl_base.specs.Libraries.{own_skip as own_skip_of, uses_else};
@@ -13,9 +12,7 @@ ghost use Rattle.gl_cells.specs.Skips.{skip_value};
 
 use crate::outline::Outline;
 use crate::ports::own_skip;
-use crate::{Body, Name, Skip, Sub};
-use gl_deck::place_of;
-use indexmap::IndexMap;
+use crate::{Body, Name, Skip, Sub, Subs};
 use std::alloc::{AllocError, Global};
 
 /// The cell at this place is skipped.
@@ -51,7 +48,8 @@ fn deeper_marks(alloc: Global, cells: &[Outline], marks: &[bool]) -> Result<Vec<
 
 /// For each cell whether it is skipped. It takes as many steps as there are X cards, for each cell.
 pub fn marks(alloc: Global, cells: &[Outline]) -> Result<Vec<bool>, AllocError>
-    ensures marks { IfOk result (λ v. (subs : List SubValue) → cells.now ≡ outlines_of subs → v.items ≡ marks_through subs (length subs)) }
+    ensures marks { IfOk result (λ v. (subs : List SubValue) → cells.now ≡ outlines_of subs
+        → v.items ≡ marks_through subs (length subs)) }
 {
     let mut marks = vec![in alloc; false; cells.len()]?;
     for calls in 0..cells.len() {
@@ -62,20 +60,19 @@ pub fn marks(alloc: Global, cells: &[Outline]) -> Result<Vec<bool>, AllocError>
 }
 
 /// The cell of this name is skipped.
-fn is_name_marked(marks: &[bool], subs: &IndexMap<Name, Sub>, name: &Name) -> bool
-    requires keyed { keys subs.now ≡ names_of (values subs.now) }
-    ensures marked { result ≡ has_mark marks.now (option_to_list (place_in (values subs.now) name.now)) }
+fn is_name_marked(marks: &[bool], subs: &Subs, name: &Name) -> bool
+    ensures marked { result ≡ has_mark marks.now (option_to_list (place_in subs.now name.now)) }
 {
-    match place_of(subs, name) {
+    match subs.place_of(name) {
         Some(place) => is_marked(marks, place),
         None => false,
     }
 }
 
 /// The name of the cell that a card calls, where that is skipped.
-fn marked_call<'a>(marks: &[bool], subs: &IndexMap<Name, Sub>, card: &'a Body) -> Option<&'a Name>
-    requires keyed { keys subs.now ≡ names_of (values subs.now) }
-    ensures first { option_copied result ≡ marked_callee marks.now (values subs.now) (bodies_value (card.now ∷ [])) }
+fn marked_call<'a>(marks: &[bool], subs: &Subs, card: &'a Body) -> Option<&'a Name>
+    ensures first { option_copied result
+        ≡ marked_callee marks.now subs.now (bodies_value (card.now ∷ [])) }
 {
     match card {
         Body::Dev(_, _) => None,
@@ -90,13 +87,9 @@ fn marked_call<'a>(marks: &[bool], subs: &IndexMap<Name, Sub>, card: &'a Body) -
 }
 
 /// The name of the first cell that cards call and that is skipped.
-fn first_marked<'a>(
-    marks: &[bool],
-    subs: &IndexMap<Name, Sub>,
-    cards: &'a [Body],
-) -> Option<&'a Name>
-    requires keyed { keys subs.now ≡ names_of (values subs.now) }
-    ensures first { option_copied result ≡ marked_callee marks.now (values subs.now) (bodies_value cards.now) }
+fn first_marked<'a>(marks: &[bool], subs: &Subs, cards: &'a [Body]) -> Option<&'a Name>
+    ensures first { option_copied result
+        ≡ marked_callee marks.now subs.now (bodies_value cards.now) }
 {
     let mut rest = cards;
     while let [card, behind @ ..] = rest {
@@ -111,12 +104,12 @@ fn first_marked<'a>(
 /// Why a cell is skipped, if it is: by itself, else since it calls a cell that is skipped.
 pub fn skip(
     alloc: Global,
-    subs: &IndexMap<Name, Sub>,
+    subs: &Subs,
     marks: &[bool],
     cell: &Sub,
 ) -> Result<Option<Skip>, AllocError>
-    requires keyed { keys subs.now ≡ names_of (values subs.now) }
-    ensures skip { IfOk result (λ skip. option_map skip_value skip ≡ uses_else (own_skip_of cell.now) (marked_callee marks.now (values subs.now) cell.now.cards)) }
+    ensures skip { IfOk result (λ skip. option_map skip_value skip
+        ≡ uses_else (own_skip_of cell.now) (marked_callee marks.now subs.now cell.now.cards)) }
 {
     if let Some(skip) = own_skip(alloc, cell)? {
         return Ok(Some(skip));

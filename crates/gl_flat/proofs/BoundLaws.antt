@@ -1,7 +1,7 @@
 -- What a bound on the flat text bounds: flat names, and how many nets there are.
-use Rattle.std.proofs.Common.{◌<◌, ◌≤◌, ◌+◌, ◌^◌, ℕ, List, [], ◌∷◌, ◌++◌, length, Bool, true, false, cond, not, Option, Some, None, ap, map, filter, flat_map, arith, length-append}
+use Rattle.std.proofs.Common.{◌<◌, ◌≤◌, ◌+◌, ◌^◌, ℕ, List, [], ◌∷◌, ◌++◌, length, Option, Some, None, ap, map, flat_map, arith, length-append}
 use Rattle.std.specs.Prelude.{option_to_list}
-use Rattle.gl_text.specs.LogicalLines.{same_text}
+use Rattle.gl_text.proofs.Names.{names_fewer}
 use Rattle.gl_text.specs.Cards.{Head, spaced, subckt, ends, ended}
 use Rattle.gl_text.specs.Decks.{line_of, once, global_line, model_line, passed_line}
 use Rattle.gl_text.specs.Flattening.{TEXT, Net, FlatDevice, Flat, net, net_name, device_name, flat_card, bearers, bearer_name, around, flat_text, flat_line}
@@ -77,18 +77,6 @@ names_few (d ∷ ds) =
     let r = names_few ds in
     omega (arith, e, f, g, h, r)
 
-filter_by : {A : Type 0} (b : Bool) (x : A) (xs : List A) (n : ℕ) → length xs ≤ n → length (cond b (x ∷ xs) xs) ≤ n + 1
-filter_by true x xs n h = omega (arith, h)
-filter_by false x xs n h = omega (arith, h)
-
-filter_few : {A : Type 0} (p : A → Bool) (xs : List A) → length (filter p xs) ≤ length xs
-filter_few p [] = omega arith
-filter_few p (x ∷ xs) = let h = filter_by (p x) x (filter p xs) (length xs) (filter_few p xs) in omega (arith, h)
-
-once_few : (ns : List (List ℕ)) → length (once ns) ≤ length ns
-once_few [] = omega arith
-once_few (n ∷ ns) = let f = filter_few (λ m. not (same_text n m)) (once ns) in let r = once_few ns in omega (arith, f, r)
-
 -- ---- the text
 
 around_more : (head : Option Head) (text : List ℕ) → length text ≤ length (around head text)
@@ -115,7 +103,7 @@ names_countable f h = let e = lines_in_text f in all_countable f.devices (omega 
 
 pub nets_fit : (f : Flat) → length (flat_text f) ≤ TEXT → length (nets_of (map flat_card f.devices)) < 2 ^ 32
 nets_fit f h =
-    let a = once_few (flat_map names f.devices) in
+    let a = names_fewer (flat_map names f.devices) in
     let b = names_few f.devices in
     let e = lines_in_text f in
     let same = ap (λ (ns : List (List ℕ)). length (once ns)) (names_are f.devices) in

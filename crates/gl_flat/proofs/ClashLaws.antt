@@ -7,6 +7,7 @@ use Rattle.std.specs.Cmp.Lexicographic.{nat_list_eq_equiv}
 use Rattle.std.proofs.lemmas.List.Folds.{list_any-append}
 use Rattle.indexmap.specs.IndexMap.{insert_entry}
 use Rattle.indexmap.specs.IndexSet.{insert_key}
+use Rattle.gl_lists.proofs.Bools.{and_not_itself}
 use Rattle.gl_fault.proofs.FirstLaws.{only}
 use Rattle.gl_text.specs.LogicalLines.{Fault, name_clash, same_text}
 use Rattle.gl_fault.specs.Refusals.{first_some, when, ◌>>=◌, IsFound, IsRefusal}
@@ -15,15 +16,11 @@ use Rattle.gl_text.specs.Decks.{is_in, has_twice, once}
 use Rattle.gl_text.specs.Flattening.{Net, Bearer, device, net, net_name, top_net, bearer_name, same_path, clash, first_clash}
 use Rattle.gl_printed.specs.ReadDecks.{AllDiffer}
 use Rattle.gl_deck.proofs.CallLaws.{exact}
-use Rattle.gl_flat.proofs.DotLaws.{or_true}
+use Rattle.gl_flat.proofs.DotLaws.{no_more, or_true}
 use Rattle.gl_flat.proofs.SoundLaws.{tops_once}
 use Rattle.gl_flat.specs.SeenNames.{Seen, nothing_seen, has_dot, plain_names, same_net, is_below, takes_top_name, with_net, with_device, seen_with, seen_all}
 
 -- ---- truth values
-
-no_more : (a : Bool) → (a || (false || false)) ≡ a
-no_more true = refl
-no_more false = refl
 
 turned : (a b : Bool) → (a || b) ≡ (b || (a || false))
 turned true true = refl
@@ -278,10 +275,6 @@ clash_is (b ∷ bs) s before h f = clash_by s before b bs (judged s before b h f
 abbrev top : List ℕ → Bearer
 top n = net (top_net n)
 
-never : (b : Bool) → (b && not b) ≡ false
-never true = refl
-never false = refl
-
 no_device : (n : List ℕ) (ns : List (List ℕ)) → list_any (clash (device n)) (map top ns) ≡ false
 no_device n [] = refl
 no_device n (m ∷ ms) = no_device n ms
@@ -289,7 +282,7 @@ no_device n (m ∷ ms) = no_device n ms
 top_clashes : (path : List (List ℕ)) (name : List ℕ) (ns : List (List ℕ))
     → list_any (clash (net (record { path = path; name = name }))) (map top ns) ≡ (is_below path && is_in (net_name (record { path = path; name = name })) ns)
 top_clashes [] name [] = refl
-top_clashes [] name (n ∷ ns) = ap (λ c. c || list_any (clash (net (record { path = []; name = name }))) (map top ns)) (never (same_text name n)) ∙ top_clashes [] name ns
+top_clashes [] name (n ∷ ns) = ap (λ c. c || list_any (clash (net (record { path = []; name = name }))) (map top ns)) (and_not_itself (same_text name n)) ∙ top_clashes [] name ns
 top_clashes (x ∷ xs) name [] = refl
 top_clashes (x ∷ xs) name (n ∷ ns) =
     ap (λ c. c || list_any (clash (net (record { path = x ∷ xs; name = name }))) (map top ns)) (and_true (same_text (net_name (record { path = x ∷ xs; name = name })) n))

@@ -3,6 +3,7 @@ use Rattle.std.proofs.Common.{◌≡◌, ℕ, List, [], ◌∷◌, ◌++◌, Boo
 use Rattle.std.specs.Prelude.{◌||◌, ◌&&◌, ◌==◌, codes}
 use Rattle.std.specs.List.{list_any}
 use Rattle.std.proofs.lemmas.List.Folds.{list_any-append}
+use Rattle.gl_lists.proofs.Bools.{and_not_itself}
 use Rattle.gl_fault.proofs.FirstLaws.{only}
 use Rattle.gl_text.specs.LogicalLines.{Fault, name_clash, same_text}
 use Rattle.gl_fault.specs.Refusals.{first_some, when}
@@ -14,11 +15,7 @@ pub or_true : (a : Bool) → (a || true) ≡ true
 or_true true = refl
 or_true false = refl
 
-never : (b : Bool) → (b && not b) ≡ false
-never true = refl
-never false = refl
-
-no_more : (a : Bool) → (a || (false || false)) ≡ a
+pub no_more : (a : Bool) → (a || (false || false)) ≡ a
 no_more true = refl
 no_more false = refl
 
@@ -59,7 +56,7 @@ at path name = record { path = path; name = name }
 
 plain_by : (mp : List (List ℕ)) (mn : List ℕ) (kp : List (List ℕ)) (kn : List ℕ) → has_dot (net_name (at mp mn)) ≡ false → clash (net (at mp mn)) (net (at kp kn)) ≡ false
 plain_by (x ∷ xs) mn kp kn e = let h : true ≡ false = sym (net_dot x xs mn) ∙ e in absurd cc
-plain_by [] mn [] kn e = never (same_text mn kn)
+plain_by [] mn [] kn e = and_not_itself (same_text mn kn)
 plain_by [] mn (y ∷ ys) kn e = apart_by (same_text mn (net_name (at (y ∷ ys) kn))) mn (net_name (at (y ∷ ys) kn)) (not (same_path [] (y ∷ ys) && same_text mn kn)) refl e (net_dot y ys kn)
 
 -- it clashes with none

@@ -1,12 +1,11 @@
 -- What may clash, seen one after the other.
 use Rattle.std.proofs.Common.{◌≡◌, ◌<◌, ◌+◌, ℕ, List, [], ◌∷◌, ◌++◌, length, take, get_or, Option, Ok, refl, sym, ap, ◌∙◌, subst, map, filter, flat_map}
-use Rattle.std.proofs.lemmas.List.Concat.{flat_map_single}
 use Rattle.std.proofs.lemmas.List.Elements.{filter-append}
 use Rattle.gl_text.specs.LogicalLines.{Fault}
 use Rattle.gl_text.specs.Flattening.{Net, Bearer, net, top_net}
 use Rattle.gl_fault.specs.Refusals.{IsRefusal}
 use Rattle.gl_flat.specs.SeenNames.{Seen, may_clash, seen_all}
-use Rattle.gl_flat.proofs.SeenLaws.{item_added, item_refused}
+use Rattle.gl_flat.proofs.SeenLaws.{as_list, single, item_added, item_refused}
 
 abbrev kept : List Bearer → List Bearer
 kept bs = filter may_clash bs
@@ -28,12 +27,6 @@ kept_refused o f xs i x s t lt e g h =
     subst (λ bs. IsRefusal o (seen_all s bs)) (sym (spread f xs)) (item_refused o (λ x. kept (f x)) xs i x s t lt e (ap (seen_all s) (sym (spread f (take i xs))) ∙ g) h)
 
 -- ---- the same of nets
-
-abbrev as_list : Net → List Bearer
-as_list n = net n ∷ []
-
-single : (ns : List Net) → flat_map as_list ns ≡ map net ns
-single ns = flat_map_single net ns
 
 pub net_kept : (ns : List Net) (i : ℕ) (n : Net) (s t u : Seen) → i < length ns → n ≡ get_or ns i n → seen_all s (filter may_clash (map net (take i ns))) ≡ Ok t → seen_all t (filter may_clash (net n ∷ [])) ≡ Ok u
     → seen_all s (filter may_clash (map net (take (i + 1) ns))) ≡ Ok u

@@ -6,7 +6,7 @@ use Rattle.gl_text.specs.Decks.{line_of}
 use Rattle.gl_text.specs.Flattening.{FlatDevice, Flat, top_net, net_name, flat_card, flat_text, around}
 use Rattle.gl_flat.specs.PlainFlats.{plain_device, plain}
 
-nodes_stay : (nodes : List (List ℕ)) → map net_name (map top_net nodes) ≡ nodes
+pub nodes_stay : (nodes : List (List ℕ)) → map net_name (map top_net nodes) ≡ nodes
 nodes_stay [] = refl
 nodes_stay (n ∷ ns) = ap (λ ms. n ∷ ms) (nodes_stay ns)
 

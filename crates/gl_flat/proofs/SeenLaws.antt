@@ -49,10 +49,10 @@ item_refused o f xs i x s t lt e g h =
     (refused_before o s (flat_map f (take i xs) ++ f x) (flat_map f (drop (i + 1) xs)) (refused_more o s t (flat_map f (take i xs)) (f x) g h))
 
 -- the same of nets
-abbrev as_list : Net → List Bearer
+abbrev pub as_list : Net → List Bearer
 as_list n = net n ∷ []
 
-single : (ns : List Net) → flat_map as_list ns ≡ map net ns
+pub single : (ns : List Net) → flat_map as_list ns ≡ map net ns
 single ns = flat_map_single net ns
 
 pub net_added : (ns : List Net) (i : ℕ) (n : Net) (s t u : Seen) → i < length ns → n ≡ get_or ns i n → seen_all s (map net (take i ns)) ≡ Ok t → seen_all t (net n ∷ []) ≡ Ok u → seen_all s (map net (take (i + 1) ns)) ≡ Ok u

@@ -1,18 +1,19 @@
 -- Flattening, put together from its steps.
-use Rattle.gl_fault.specs.Refusals.{when, or_else, ◌>>=◌, IsFound, IsRefusal}
-use Rattle.std.proofs.Common.{◌≡◌, ◌≤◌, ◌<◌, ◌+◌, ℕ, List, length, Bool, true, false, ltb, Option, Some, None, Result, Ok, Err, refl, sym, ap, ◌∙◌, subst, arith}
+use Rattle.gl_fault.specs.Refusals.{first_some, when, or_else, ◌>>=◌, IsFound, IsRefusal}
+use Rattle.std.proofs.Common.{◌≡◌, ◌≤◌, ◌<◌, ◌+◌, ℕ, List, [], ◌∷◌, length, flat_map, Bool, true, false, ltb, Option, Some, None, Result, Ok, Err, refl, sym, ap, ◌∙◌, subst, arith}
 use Rattle.std.specs.Prelude.{OnOk, IfOk, IfErr}
 use Rattle.std.specs.Result.{IsErrAnd}
 use Rattle.std.proofs.lemmas.Bool.{ltb-true, ltb-false, lt-ltb}
-use Rattle.gl_fault.proofs.AnswerLaws.{through, refused_by}
+use Rattle.gl_fault.proofs.AnswerLaws.{given, none_is, through, refused_by}
+use Rattle.gl_fault.proofs.FirstLaws.{none_first, only}
 use Rattle.gl_text.specs.LogicalLines.{Fault, long_text}
 use Rattle.gl_text.specs.Cards.{Head}
 use Rattle.gl_text.specs.Decks.{Body, Sub, Deck}
-use Rattle.gl_text.specs.Flattening.{DEPTH, TEXT, FlatDevice, Flat, flat_devices, flat_text, flatten, chosen, top_place, excess_in, text_fault}
+use Rattle.gl_text.specs.Flattening.{DEPTH, TEXT, FlatDevice, Flat, flat_devices, flat_text, flatten, chosen, top_place, excess_in, text_fault, bearers, long_in}
 use Rattle.gl_flat.specs.declared.fault.FlatFault.{FlatFault}
 use Rattle.gl_flat.specs.Lengths.{after}
-use Rattle.gl_flat.specs.Refusals.{GivesOf, fault_of}
-use Rattle.gl_flat.specs.Steps.{checked, judged, stepwise}
+use Rattle.gl_flat.specs.Refusals.{GivesOf, Refuses, fault_of}
+use Rattle.gl_flat.specs.Steps.{AreShort, checked, judged, length_fault, stepwise}
 
 -- ---- the text's length
 
@@ -35,11 +36,22 @@ too_long f n e h = ap (λ b. when b (long_text (TEXT + 1))) (lt-ltb TEXT (length
 
 -- ---- refusals
 
-pub first_refuses : (o : Option Fault) (f : Flat) (a b c : Option Fault) → IsFound o a → IsRefusal o (checked f a b c)
-first_refuses o f a b c h = through o (or_else a f) (λ g. or_else b g >>= λ x. or_else c x) (refused_by o a f h)
+-- what is not refused by its lengths is short
+pub short : (f : Flat) → Refuses None (length_fault f) → AreShort f
+short f p =
+    let none = none_first (text_fault f) (long_in (flat_map bearers f.devices) ∷ []) (none_is fault_of (length_fault f) p) in
+    record { text = none.0; names = sym (only (long_in (flat_map bearers f.devices))) ∙ none.1 }
 
-pub second_refuses : (o : Option Fault) (f : Flat) (a b c : Option Fault) → a ≡ None → IsFound o b → IsRefusal o (checked f a b c)
-second_refuses o f a b c e h = subst (λ v. IsRefusal o (checked f v b c)) (sym e) (through o (or_else b f) (λ x. or_else c x) (refused_by o b f h))
+checked_by : (f : Flat) (a b c : Option Fault) → (or_else (first_some (a ∷ b ∷ [])) f >>= λ g. or_else c g) ≡ checked f a b c
+checked_by f None None c = refl
+checked_by f None (Some x) c = refl
+checked_by f (Some x) b c = refl
+
+-- a refusal by length is one of the whole
+pub length_refuses : (x : FlatFault) (f : Flat) (c : Option Fault) → Refuses (Some x) (length_fault f) → IsRefusal (fault_of x) (checked f (text_fault f) (long_in (flat_map bearers f.devices)) c)
+length_refuses x f c p =
+    subst (λ (w : Result Flat Fault). IsRefusal (fault_of x) w) (checked_by f (text_fault f) (long_in (flat_map bearers f.devices)) c)
+    (through (fault_of x) (or_else (length_fault f) f) (λ g. or_else c g) (given fault_of x (length_fault f) f p))
 
 pub third_refuses : (o : Option Fault) (f : Flat) (a b c : Option Fault) → a ≡ None → b ≡ None → IsFound o c → IsRefusal o (checked f a b c)
 third_refuses o f a b c e g h = subst (λ v. IsRefusal o (checked f v b c)) (sym e) (subst (λ v. IsRefusal o (checked f None v c)) (sym g) (refused_by o c f h))

@@ -1,11 +1,12 @@
 -- How a flat deck is kept: the names of its nets stand in a list, and a device has its nets by their places there.
-use Rattle.std.specs.Prelude.{◌≡◌, ℕ, List, map, Option}
+use Rattle.std.specs.Prelude.{◌≡◌, ℕ, List, map, flat_map, Option}
 use Rattle.gl_text.specs.Cards.{Device as Card, dev}
 use Rattle.gl_text.specs.Decks.{line_of}
 use Rattle.gl_flat.specs.PlainFlats.{plain_device}
 use Rattle.gl_text.specs.Flattening.{FlatDevice, net_name, device_name}
 use Rattle.gl_base.specs.BaseCircuit.{nets_of, net_number}
 use Rattle.gl_base.specs.Reports.{name_at}
+use Rattle.gl_card.specs.Lines.{spaced_all}
 
 -- a device as it is kept: its flat name, the numbers of its nets, and what its card carries
 pub record KeptDevice : Type 0 where
@@ -17,6 +18,10 @@ pub record KeptDevice : Type 0 where
 -- a card, each net by its number
 abbrev pub kept_device : List (List ℕ) → Card → KeptDevice
 kept_device nets c = record { name = c.name; nets = map (net_number nets) c.nodes; model = c.model; tail = c.tail }
+
+-- cards, each net by its number among theirs
+abbrev pub kept_of : List Card → List KeptDevice
+kept_of cards = map (kept_device (nets_of cards)) cards
 
 -- and back, each net by its name
 abbrev pub kept_card : List (List ℕ) → KeptDevice → Card
@@ -38,6 +43,14 @@ pub record AreKept (nets : List (List ℕ)) (devices : List KeptDevice) : Type 0
   pub nets_are : nets ≡ nets_of (kept_cards nets devices)
   pub numbers_are : devices ≡ map (kept_device nets) (kept_cards nets devices)
 
+-- a space and the name of each net, by their numbers
+abbrev pub numbers_text : List (List ℕ) → List ℕ → List ℕ
+numbers_text nets nodes = spaced_all (map (name_at nets) nodes)
+
 -- the line of a kept device
 abbrev pub device_line : List (List ℕ) → KeptDevice → List ℕ
 device_line nets d = line_of (dev (kept_card nets d))
+
+-- the lines of kept devices
+abbrev pub device_lines : List (List ℕ) → List KeptDevice → List ℕ
+device_lines nets devices = flat_map (device_line nets) devices

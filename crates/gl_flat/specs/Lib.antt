@@ -1,5 +1,6 @@
 pub mod FlatNets
 pub mod Lengths
+pub mod Lines
 pub mod LongNames
 pub mod PlainFlats
 pub mod Kept

@@ -5,9 +5,13 @@ use Rattle.std.specs.List.{AllByRecursion}
 use Rattle.gl_text.specs.LogicalLines.{NAME, Fault, long_flat_name}
 use Rattle.gl_text.specs.Flattening.{Bearer, bearer_name}
 
+-- what refuses a length of a flat name
+abbrev pub long_length : ℕ → Option Fault
+long_length len = when (nat_lt NAME len) (long_flat_name len)
+
 -- what refuses a flat name by its length
 abbrev pub long_name : List ℕ → Option Fault
-long_name name = when (nat_lt NAME (length name)) (long_flat_name (length name))
+long_name name = long_length (length name)
 
 -- a length that a count holds
 abbrev pub IsCountable : List ℕ → Type 0

@@ -1,9 +1,12 @@
 -- What a refusal of the code means, and what flattening gives.
 use Rattle.std.specs.Prelude.{◌≡◌, ℕ, List, Option, Some, None, Result}
+use Rattle.std.specs.declared.alloc.Global.{Global}
+use Rattle.std.specs.declared.vec.Vec.{Vec}
 use Rattle.gl_fault.specs.Refusals as answers
 use Rattle.gl_text.specs.LogicalLines as lines
 use Rattle.gl_text.specs.LogicalLines.{Fault}
-use Rattle.gl_text.specs.Flattening.{Flat, flat_text}
+use Rattle.gl_text.specs.Decks.{Deck}
+use Rattle.gl_text.specs.Flattening.{Flat, flat_text, flatten}
 use Rattle.gl_flat.specs.PlainFlats.{plain}
 use Rattle.gl_flat.specs.declared.fault.What.{What}
 use Rattle.gl_flat.specs.declared.fault.What.TheVariants as what
@@ -25,6 +28,22 @@ fault_of (faults.TopDevices line) = Some (lines.top_devices line)
 fault_of (faults.LongText number) = Some (lines.long_text number)
 fault_of faults.Memory = None
 
+-- a refusal of the code is the one that is wanted, or want of memory
+abbrev pub IsFaultOf : {V : Type 0} → Result V Fault → FlatFault → Type 0
+IsFaultOf wanted fault = answers.IsRefusal (fault_of fault) wanted
+
+-- it refuses the flat deck, whatever the rails are
+abbrev pub RefusesFlat : Deck → Option (List ℕ) → FlatFault → Type 0
+RefusesFlat deck top fault = (rails : List (List ℕ)) → IsFaultOf (flatten deck rails top) fault
+
+-- a refusal of the code is the one that there is, or want of memory
+abbrev pub IsFaultIn : Option Fault → FlatFault → Type 0
+IsFaultIn found fault = answers.IsFound (fault_of fault) found
+
+-- there is a refusal exactly where one is wanted, and it is that one
+abbrev pub Refuses : Option FlatFault → Option Fault → Type 0
+Refuses = answers.Refuses fault_of
+
 -- what is made of a flat deck, exactly where there is one; else the refusal; want of memory may come in place of either
 abbrev pub GivesOf : {V : Type 0} → (V → Flat → Type 0) → Result V FlatFault → Result Flat Fault → Type 0
 GivesOf = answers.GivesOf fault_of
@@ -36,3 +55,7 @@ Gives = GivesOf (λ v w. v ≡ plain w)
 -- the text is that of a flat deck
 abbrev pub IsTextOf : List ℕ → Flat → Type 0
 IsTextOf text w = text ≡ flat_text w
+
+-- the text of a flat deck, exactly where there is one
+abbrev pub GivesText : Result (Vec ℕ Global) FlatFault → Result Flat Fault → Type 0
+GivesText = GivesOf (λ text. IsTextOf text.items)

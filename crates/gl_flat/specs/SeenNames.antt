@@ -1,13 +1,14 @@
 -- Flat names that were seen behind the nets of the top: each name of a device, and each flat name of a net with the net that has it.
-use Rattle.std.specs.Prelude.{ℕ, ◌==◌, ◌&&◌, Bool, true, false, List, [], ◌∷◌, map, flat_map, Option, Some, None, Result, Ok, Err, if◌then◌else◌}
+use Rattle.std.specs.Prelude.{ℕ, ◌==◌, ◌<◌, ◌^◌, ◌&&◌, Bool, true, false, List, [], ◌∷◌, length, map, filter, flat_map, Option, Some, None, Result, Ok, Err, if◌then◌else◌}
 use Rattle.std.specs.List.{list_any}
 use Rattle.std.specs.Map.{lookup}
 use Rattle.indexmap.specs.IndexMap.{insert_entry}
-use Rattle.indexmap.specs.IndexSet.{insert_key}
+use Rattle.indexmap.specs.IndexSet.{insert_all, insert_key}
 use Rattle.gl_text.specs.LogicalLines.{Fault, name_clash, same_text}
 use Rattle.gl_fault.specs.Refusals.{◌>>=◌}
 use Rattle.gl_text.specs.Decks.{is_in}
-use Rattle.gl_text.specs.Flattening.{Net, FlatDevice, Bearer, device, net, net_name, bearers, same_path}
+use Rattle.gl_text.specs.Flattening.{Net, FlatDevice, Bearer, device, device_name, net, net_name, top_net, bearers, same_path}
+use Rattle.gl_base.specs.BaseCircuit.{net_number}
 use Rattle.gl_printed.specs.ReadDecks.{AllDiffer}
 
 -- a name holds a dot, as all flat names behind X cards do
@@ -74,3 +75,39 @@ seen_with s (net m) = with_net s m (lookup (same_text (net_name m)) s.nets)
 abbrev pub seen_all : Seen → List Bearer → Result Seen Fault
 seen_all s [] = Ok s
 seen_all s (b ∷ bs) = seen_with s b >>= λ t. seen_all t bs
+
+-- one name more
+abbrev pub seen_one : Seen → Bearer → Result Seen Fault
+seen_one s b = seen_all s (b ∷ [])
+
+-- those of them that may clash more
+abbrev pub seen_risks : Seen → List Bearer → Result Seen Fault
+seen_risks s bs = seen_all s (filter may_clash bs)
+
+-- nets of the top, by their names
+abbrev pub top_nets : List (List ℕ) → List Net
+top_nets names = map top_net names
+
+-- the same as what has a flat name
+abbrev pub top_bearers : List (List ℕ) → List Bearer
+top_bearers names = map net (top_nets names)
+
+-- the device itself, as what has a flat name
+abbrev pub own : FlatDevice → Bearer
+own d = device (device_name d)
+
+-- what has a flat name in devices
+abbrev pub bearers_of : List FlatDevice → List Bearer
+bearers_of devices = flat_map bearers devices
+
+-- the number of a net: the place of its flat name
+abbrev pub number_in : Seen → Net → ℕ
+number_in s m = net_number (net_names s) (net_name m)
+
+-- the numbers of nets
+abbrev pub numbers_in : Seen → List Net → List ℕ
+numbers_in s nets = map (number_in s) nets
+
+-- with these flat names too, there are fewer than numbers
+abbrev pub HasRoom : Seen → List (List ℕ) → Type 0
+HasRoom s names = length (insert_all same_text (net_names s) names) < 2 ^ 32

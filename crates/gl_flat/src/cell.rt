@@ -1,11 +1,10 @@
-ghost use Rattle.std.specs.Prelude.{◌≡◌, None, map, option_map, IfOk};
+ghost use Rattle.std.specs.Prelude.{◌≡◌, map, IfOk};
 ghost use Rattle.indexmap.specs.IndexMap.{keys, values};
-ghost use Rattle.gl_text.specs.LogicalLines.{name_clash};
-ghost use Rattle.gl_text.specs.Flattening.{DEPTH as MOST_CALLS, flat_devices, top_place, clash_in};
+ghost use Rattle.gl_base.specs.Libraries.{clash_of_cell};
 ghost use Rattle.gl_printed.specs.ReadDecks.{AllDiffer, body_name};
-ghost use Rattle.gl_deck.specs.Bodies.{names_of};
 ghost use Rattle.gl_flat.specs.SeenNames.{PlainDiffer};
-ghost use Rattle.gl_flat.specs.TopNames.{clash_among as clash_of};
+ghost use Rattle.gl_flat.specs.Steps.{cards_clash};
+ghost use Rattle.gl_flat.specs.TopNames.{IsClash, clash_with_top};
 ghost use Rattle.gl_flat.specs.Ways.{IsScene, PortsDiffer};
 
 use crate::clash::refuse_clash;
@@ -13,8 +12,7 @@ use crate::device::FlatDevice;
 use crate::flattening::expanded;
 use crate::scene::Scene;
 use crate::tables::Tables;
-use crate::{FlatFault, Memory, Name, Sub};
-use indexmap::IndexMap;
+use crate::{FlatFault, Memory, Name, Sub, Subs};
 use std::alloc::Global;
 
 /// The first name that clashes among devices; every other refusal there is want of memory.
@@ -24,7 +22,7 @@ fn clash_among<'a>(
     devices: &[FlatDevice<'a>],
 ) -> Result<Option<Name>, Memory>
     requires plain { PlainDiffer devices.now }
-    ensures clash { IfOk result (λ name. option_map name_clash name ≡ clash_of scene.now devices.now) }
+    ensures clash { IfOk result (IsClash (clash_with_top scene.now devices.now)) }
 {
     match refuse_clash(alloc, scene, devices) {
         Ok(()) => Ok(None),
@@ -34,14 +32,14 @@ fn clash_among<'a>(
 }
 
 /// The first name that clashes among the devices of a cell.
-fn clash_of_cell<'a>(
+fn clash_of_cards<'a>(
     alloc: Global,
     scene: &Scene<'a>,
     cell: &'a Sub,
 ) -> Result<Option<Name>, Memory>
     requires scene { IsScene scene.now }
     requires names { AllDiffer (map body_name cell.now.cards) }
-    ensures clash { IfOk result (λ name. option_map name_clash name ≡ clash_of scene.now (flat_devices scene.now.rails.now.keys (values scene.now.subs.now) MOST_CALLS top_place cell.now.cards)) }
+    ensures clash { IfOk result (IsClash (cards_clash scene.now cell.now.cards)) }
 {
     let devices = expanded(alloc, scene, cell.cards())?;
     clash_among(alloc, scene, &devices)
@@ -53,17 +51,16 @@ fn clash_of_cell<'a>(
 /// the cell expands. Names may be of any length.
 pub fn first_clash(
     alloc: Global,
-    subs: &IndexMap<Name, Sub>,
+    subs: &Subs,
     rails: &[Name],
     cell: &Sub,
 ) -> Result<Option<Name>, Memory>
-    requires keyed { keys subs.now ≡ names_of (values subs.now) }
-    requires ports { PortsDiffer (values subs.now) }
+    requires ports { PortsDiffer subs.now }
     requires rails { AllDiffer rails.now }
     requires names { AllDiffer (map body_name cell.now.cards) }
-    ensures clash { IfOk result (λ name. option_map name_clash name ≡ clash_in rails.now cell.now.head.ports (flat_devices rails.now (values subs.now) MOST_CALLS top_place cell.now.cards)) }
+    ensures clash { IfOk result (IsClash (clash_of_cell rails.now subs.now cell.now)) }
 {
     let tables = Tables::of(alloc, subs, rails, cell.head().ports())?;
     let scene = tables.scene(subs);
-    clash_of_cell(alloc, &scene, cell)
+    clash_of_cards(alloc, &scene, cell)
 }

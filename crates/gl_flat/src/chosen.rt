@@ -2,8 +2,8 @@ ghost use Rattle.std.specs.Prelude.{◌≡◌, Some, Ok, IfOk, IfErr};
 ghost use Rattle.std.specs.Option.{option_copied};
 ghost use Rattle.gl_text.specs.Flattening as flat;
 ghost use Rattle.gl_deck.specs.Bodies.{bodies_value};
-ghost use Rattle.gl_fault.specs.Refusals.{IsRefusal};
-ghost use Rattle.gl_flat.specs.Refusals.{fault_of};
+ghost use Rattle.gl_flat.specs.Refusals.{IsFaultOf, Refuses};
+ghost use Rattle.gl_flat.specs.Steps.{IsChoice, beside_fault};
 
 use crate::copy::name_copy;
 use crate::{Body, Deck, FlatFault, Head, Name};
@@ -18,18 +18,28 @@ pub struct Chosen<'a> {
     pub cards: &'a [Body],
 }
 
+/// The refusal of the first card outside subcircuits, beside a subcircuit that is the top.
+fn beside_refusal(cards: &[Body]) -> Option<FlatFault>
+    ensures beside { Refuses result (beside_fault (bodies_value cards.now)) }
+{
+    match cards.first() {
+        Some(card) => Some(FlatFault::TopDevices { line: card.line() }),
+        None => None,
+    }
+}
+
 /// The subcircuit of a name as the top.
 fn choose_sub<'a>(alloc: Global, deck: &'a Deck, name: &Name) -> Result<Chosen<'a>, FlatFault>
-    ensures ok { IfOk result (λ c. flat.chosen deck.now (Some name.now) ≡ Ok (option_copied c.head, bodies_value c.cards.now)) }
-    ensures refused { IfErr result (λ fault. IsRefusal (fault_of fault) (flat.chosen deck.now (Some name.now))) }
+    ensures ok { IfOk result (IsChoice deck.now (Some name.now)) }
+    ensures refused { IfErr result (IsFaultOf (flat.chosen deck.now (Some name.now))) }
 {
     let Some(sub) = deck.subs().get(name) else {
         return Err(FlatFault::NoTop {
             name: name_copy(alloc, name)?,
         });
     };
-    if let [card, ..] = deck.top() {
-        return Err(FlatFault::TopDevices { line: card.line() });
+    if let Some(fault) = beside_refusal(deck.top()) {
+        return Err(fault);
     }
     Ok(Chosen {
         head: Some(sub.head()),
@@ -43,8 +53,8 @@ pub fn choose<'a>(
     deck: &'a Deck,
     top: Option<&Name>,
 ) -> Result<Chosen<'a>, FlatFault>
-    ensures ok { IfOk result (λ c. flat.chosen deck.now (option_copied top.entry) ≡ Ok (option_copied c.head, bodies_value c.cards.now)) }
-    ensures refused { IfErr result (λ fault. IsRefusal (fault_of fault) (flat.chosen deck.now (option_copied top.entry))) }
+    ensures ok { IfOk result (IsChoice deck.now (option_copied top.entry)) }
+    ensures refused { IfErr result (IsFaultOf (flat.chosen deck.now (option_copied top.entry))) }
 {
     match top {
         Some(name) => choose_sub(alloc, deck, name),

@@ -1,8 +1,7 @@
 ghost use Rattle.std.specs.Prelude.{◌≡◌, None, OnOk, IfErr};
-ghost use Rattle.gl_fault.specs.Refusals.{IsFound};
-ghost use Rattle.gl_flat.specs.Refusals.{fault_of};
+ghost use Rattle.gl_flat.specs.Refusals.{IsFaultIn};
 ghost use Rattle.gl_flat.specs.SeenNames.{PlainDiffer};
-ghost use Rattle.gl_flat.specs.TopNames.{clash_among as clash_of};
+ghost use Rattle.gl_flat.specs.TopNames.{clash_with_top};
 
 use crate::FlatFault;
 use crate::device::FlatDevice;
@@ -18,8 +17,8 @@ pub fn refuse_clash<'a>(
     devices: &[FlatDevice<'a>],
 ) -> Result<(), FlatFault>
     requires plain { PlainDiffer devices.now }
-    ensures ok { OnOk result (clash_of scene.now devices.now ≡ None) }
-    ensures refused { IfErr result (λ fault. IsFound (fault_of fault) (clash_of scene.now devices.now)) }
+    ensures ok { OnOk result (clash_with_top scene.now devices.now ≡ None) }
+    ensures refused { IfErr result (IsFaultIn (clash_with_top scene.now devices.now)) }
 {
     let mut seen = Seen::behind(alloc, scene);
     seen.add_all(alloc, devices)?;

@@ -83,7 +83,8 @@ pub fn top_copy(alloc: Global, head: Option<&Head>) -> Result<Option<Head>, Allo
 
 /// A copy of texts.
 pub fn text_copies(alloc: Global, texts: &[Vec<u8>]) -> Result<Vec<Vec<u8>>, AllocError>
-    ensures copies { IfOk result (λ copies. map (λ t. t.items) copies.items ≡ map (λ t. t.items) texts.now) }
+    ensures copies { IfOk result (λ copies.
+        map (λ t. t.items) copies.items ≡ map (λ t. t.items) texts.now) }
 {
     let mut copies = Vec::with_capacity(alloc, texts.len())?;
     for text in texts {

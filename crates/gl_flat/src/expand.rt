@@ -1,9 +1,7 @@
-ghost use Rattle.std.specs.Prelude.{◌≡◌, ◌++◌, ◌∷◌, [], OnOk, IfOk};
-ghost use Rattle.indexmap.specs.IndexMap.{values};
-ghost use Rattle.gl_text.specs.Decks as decks;
-ghost use Rattle.gl_text.specs.Flattening as flat;
+ghost use Rattle.std.specs.Prelude.{◌≡◌, ◌++◌, ◌∷◌, [], OnOk};
+ghost use Rattle.gl_text.specs.Decks.{call_at};
 ghost use Rattle.gl_deck.specs.Bodies.{bodies_value};
-ghost use Rattle.gl_flat.specs.Ways.{IsScene, place_of};
+ghost use Rattle.gl_flat.specs.Ways.{IsScene, devices_behind};
 
 use crate::device::FlatDevice;
 use crate::scene::{Scene, find};
@@ -23,7 +21,8 @@ fn expand_call<'a>(
     out: &mut Vec<FlatDevice<'a>>,
 ) -> Result<(), AllocError>
     requires scene { IsScene scene.now }
-    ensures ok { OnOk result (out.new.items ≡ out.old.items ++ flat.flat_devices scene.now.rails.now.keys (values scene.now.subs.now) depth (place_of scene.now.rails.now.keys way.now) (decks.call_at 0 call.now ∷ [])) }
+    ensures ok { OnOk result (out.new.items
+        ≡ out.old.items ++ devices_behind scene.now depth way.now (call_at 0 call.now ∷ [])) }
 {
     let Some(callee) = find(scene, call.sub()) else {
         return Ok(());
@@ -50,7 +49,8 @@ fn expand_card<'a>(
     out: &mut Vec<FlatDevice<'a>>,
 ) -> Result<(), AllocError>
     requires scene { IsScene scene.now }
-    ensures ok { OnOk result (out.new.items ≡ out.old.items ++ flat.flat_devices scene.now.rails.now.keys (values scene.now.subs.now) depth (place_of scene.now.rails.now.keys way.now) (bodies_value (card.now ∷ []))) }
+    ensures ok { OnOk result (out.new.items
+        ≡ out.old.items ++ devices_behind scene.now depth way.now (bodies_value (card.now ∷ []))) }
 {
     match card {
         Body::Dev(_, card) => {
@@ -72,7 +72,8 @@ pub fn expand<'a>(
     out: &mut Vec<FlatDevice<'a>>,
 ) -> Result<(), AllocError>
     requires scene { IsScene scene.now }
-    ensures ok { OnOk result (out.new.items ≡ out.old.items ++ flat.flat_devices scene.now.rails.now.keys (values scene.now.subs.now) depth (place_of scene.now.rails.now.keys way.now) (bodies_value cards.now)) }
+    ensures ok { OnOk result (out.new.items
+        ≡ out.old.items ++ devices_behind scene.now depth way.now (bodies_value cards.now)) }
 {
     for card in cards {
         expand_card(alloc, scene, depth, way, card, out)?;

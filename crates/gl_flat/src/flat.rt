@@ -5,7 +5,7 @@ ghost use Rattle.gl_text.specs.Flattening.{device_name};
 ghost use Rattle.gl_card.specs.Letters.{byte_of};
 ghost use Rattle.gl_base.specs.BaseCircuit.{nets_of};
 ghost use Rattle.gl_base.specs.Rounds.{cards_of};
-ghost use Rattle.gl_flat.specs.Kept.{KeptDevice as Kept, kept_device};
+ghost use Rattle.gl_flat.specs.Kept.{KeptDevice as Kept, kept_of};
 
 use crate::names::Names;
 use crate::{Head, Letter, ModelCard, Name, Tail};
@@ -141,8 +141,9 @@ impl Flat {
 
     /// The devices, in flat order, each net by its number.
     pub fn devices(&self) -> &[KeptDevice]
-        ensures devices { result.now ≡ map (kept_device (nets_of (cards_of self.now))) (cards_of self.now) }
-        ensures names { map (λ (d : Kept). d.name) result.now ≡ map device_name self.now.devices }
+        ensures devices { result.now ≡ kept_of (cards_of self.now) }
+        ensures names { map (λ (d : Kept). d.name) result.now
+            ≡ map device_name self.now.devices }
     {
         &self.devices
     }

@@ -1,22 +1,21 @@
-ghost use Rattle.std.specs.Prelude.{◌≡◌, ◌≤◌, ◌<◌, ◌^◌, ◌∷◌, ℕ, List, [], Some, None, Ok, length, map, flat_map, OnOk, IfOk, IfErr};
+ghost use Rattle.std.specs.Prelude.{◌≡◌, ◌<◌, ◌^◌, Some, None, Ok, length, map, flat_map, OnOk, IfOk, IfErr};
 ghost use Rattle.std.specs.Option.{option_copied};
 ghost use Rattle.indexmap.specs.IndexMap.{keys, values};
 ghost use Rattle.gl_text.specs.Decks.{once};
 ghost use Rattle.gl_text.specs.Flattening as flat;
-ghost use Rattle.gl_text.specs.Flattening.{bearers, flat_card, top_ports, long_in, excess_in, text_fault};
+ghost use Rattle.gl_text.specs.Flattening.{bearers, flat_card, flat_text, top_ports, long_in, excess_in, text_fault};
 ghost use Rattle.gl_flat.specs.PlainFlats.{plain};
 ghost use Rattle.gl_printed.specs.FlatDecks.{AreRails};
 ghost use Rattle.gl_printed.specs.ReadDecks.{AllDiffer, IsReadDeck, body_name};
-ghost use Rattle.gl_deck.specs.Bodies.{bodies_value, names_of};
+ghost use Rattle.gl_deck.specs.Bodies.{bodies_value};
 ghost use Rattle.gl_size.specs.Excesses.{fault_of_excess};
 ghost use Rattle.gl_flat.specs.LongNames.{AreCountable};
 ghost use Rattle.gl_base.specs.BaseCircuit.{nets_of};
-ghost use Rattle.gl_flat.specs.Kept.{kept_device};
-ghost use Rattle.gl_fault.specs.Refusals.{IsFound, IsRefusal};
-ghost use Rattle.gl_flat.specs.Refusals.{Gives, GivesOf, IsTextOf, fault_of};
+ghost use Rattle.gl_flat.specs.Kept.{kept_of};
+ghost use Rattle.gl_flat.specs.Refusals.{Gives, GivesText, IsFaultIn, Refuses, RefusesFlat, fault_of};
 ghost use Rattle.gl_flat.specs.SeenNames.{PlainDiffer};
-ghost use Rattle.gl_flat.specs.Steps.{AreShort, all_devices, devices_in, flat_with, judged as judged_by};
-ghost use Rattle.gl_flat.specs.TopNames.{clash_among as clash_of};
+ghost use Rattle.gl_flat.specs.Steps.{IsChoice, devices_in, flat_by, judged_by, judged_cards, length_fault};
+ghost use Rattle.gl_flat.specs.TopNames.{clash_with_top};
 ghost use Rattle.gl_flat.specs.Ways.{IsScene};
 
 use crate::chosen::{Chosen, choose};
@@ -24,6 +23,7 @@ use crate::clash::refuse_clash;
 use crate::copy::{model_copies, name_copies, text_copies, top_copy};
 use crate::device::FlatDevice;
 use crate::expand::expand;
+use crate::frame::Frame;
 use crate::length::text_length;
 use crate::long::first_long;
 use crate::names::Names;
@@ -32,9 +32,8 @@ use crate::scene::Scene;
 use crate::seen::Seen;
 use crate::tables::Tables;
 use crate::text::put_flat;
-use crate::{Body, Deck, Flat, FlatFault, Head, KeptDevice, Name, Sub, What};
+use crate::{Body, Deck, Flat, FlatFault, Head, KeptDevice, Name, Sub, Subs, What};
 use gl_size::{Excess, first_excess};
-use indexmap::IndexMap;
 use std::alloc::{AllocError, Global};
 
 /// The most X cards in a chain.
@@ -61,10 +60,9 @@ fn excess_fault(excess: Excess) -> FlatFault
 }
 
 /// Refuses cards that expand too deep, or to too many cards or devices.
-fn refuse_excess(alloc: Global, subs: &IndexMap<Name, Sub>, cards: &[Body]) -> Result<(), FlatFault>
-    requires keyed { keys subs.now ≡ names_of (values subs.now) }
-    ensures ok { OnOk result (excess_in (values subs.now) (bodies_value cards.now) ≡ None) }
-    ensures refused { IfErr result (λ fault. IsFound (fault_of fault) (excess_in (values subs.now) (bodies_value cards.now))) }
+fn refuse_excess(alloc: Global, subs: &Subs, cards: &[Body]) -> Result<(), FlatFault>
+    ensures ok { OnOk result (excess_in subs.now (bodies_value cards.now) ≡ None) }
+    ensures refused { IfErr result (IsFaultIn (excess_in subs.now (bodies_value cards.now))) }
 {
     match first_excess(alloc, subs, cards)? {
         Some(excess) => Err(excess_fault(excess)),
@@ -72,31 +70,34 @@ fn refuse_excess(alloc: Global, subs: &IndexMap<Name, Sub>, cards: &[Body]) -> R
     }
 }
 
-/// Refuses a flat deck whose text is too long.
-fn refuse_text(
-    deck: &Deck,
-    rails: &[Name],
-    head: Option<&Head>,
-    devices: &[FlatDevice<'_>],
-) -> Result<(), FlatFault>
-    ensures ok { OnOk result (text_fault (flat_with deck.now rails.now (option_copied head.entry) devices.now) ≡ None) }
-    ensures refused { IfErr result (λ fault. fault_of fault ≡ text_fault (flat_with deck.now rails.now (option_copied head.entry) devices.now)) }
+/// The refusal of a text that is too long.
+fn text_refusal(frame: &Frame<'_>, devices: &[FlatDevice<'_>]) -> Option<FlatFault>
+    ensures too_long { Refuses result (text_fault (flat_by frame.now devices.now)) }
 {
-    if text_length(deck, rails, head, devices) > TEXT {
-        return Err(FlatFault::LongText { number: 67_108_865 });
+    if text_length(frame, devices) > TEXT {
+        return Some(FlatFault::LongText { number: 67_108_865 });
     }
-    Ok(())
+    None
 }
 
-/// Refuses the first flat name that is too long.
-fn refuse_long(devices: &[FlatDevice<'_>]) -> Result<(), FlatFault>
+/// The refusal of the first flat name that is too long.
+fn name_refusal(devices: &[FlatDevice<'_>]) -> Option<FlatFault>
     requires short { AreCountable (flat_map bearers devices.now) }
-    ensures ok { OnOk result (long_in (flat_map bearers devices.now) ≡ None) }
-    ensures refused { IfErr result (λ fault. fault_of fault ≡ long_in (flat_map bearers devices.now)) }
+    ensures too_long { Refuses result (long_in (flat_map bearers devices.now)) }
 {
     match first_long(devices) {
-        Some(len) => Err(FlatFault::LongFlatName { len }),
-        None => Ok(()),
+        Some(len) => Some(FlatFault::LongFlatName { len }),
+        None => None,
+    }
+}
+
+/// The refusal of devices whose flat text or a flat name is too long.
+fn length_refusal(frame: &Frame<'_>, devices: &[FlatDevice<'_>]) -> Option<FlatFault>
+    ensures too_long { Refuses result (length_fault (flat_by frame.now devices.now)) }
+{
+    match text_refusal(frame, devices) {
+        Some(fault) => Some(fault),
+        None => name_refusal(devices),
     }
 }
 
@@ -118,11 +119,11 @@ fn kept_parts<'a>(
 ) -> Result<(Names, Vec<KeptDevice>), FlatFault>
     requires few { length (nets_of (map flat_card devices.now)) < 2 ^ 32 }
     requires plain { PlainDiffer devices.now }
-    ensures fits { OnOk result (clash_of scene.now devices.now ≡ None) }
+    ensures fits { OnOk result (clash_with_top scene.now devices.now ≡ None) }
     ensures nets { IfOk result (λ parts. parts.0 ≡ nets_of (map flat_card devices.now)) }
     ensures devices { IfOk result (λ parts. parts.1.items
-        ≡ map (kept_device (nets_of (map flat_card devices.now))) (map flat_card devices.now)) }
-    ensures refused { IfErr result (λ fault. IsFound (fault_of fault) (clash_of scene.now devices.now)) }
+        ≡ kept_of (map flat_card devices.now)) }
+    ensures refused { IfErr result (IsFaultIn (clash_with_top scene.now devices.now)) }
 {
     let mut seen = Seen::behind(alloc, scene);
     let numbered = number_devices(alloc, &mut seen, devices)?;
@@ -133,23 +134,22 @@ fn kept_parts<'a>(
 fn flat_of<'a>(
     alloc: Global,
     scene: &Scene<'a>,
-    deck: &Deck,
-    rails: &[Name],
-    head: Option<&Head>,
+    frame: &Frame<'_>,
     devices: &[FlatDevice<'a>],
 ) -> Result<Flat, FlatFault>
     requires few { length (nets_of (map flat_card devices.now)) < 2 ^ 32 }
     requires plain { PlainDiffer devices.now }
-    ensures fits { OnOk result (clash_of scene.now devices.now ≡ None) }
-    ensures flat { IfOk result (λ f. f ≡ plain (flat_with deck.now rails.now (option_copied head.entry) devices.now)) }
-    ensures refused { IfErr result (λ fault. IsFound (fault_of fault) (clash_of scene.now devices.now)) }
+    ensures fits { OnOk result (clash_with_top scene.now devices.now ≡ None) }
+    ensures flat { IfOk result (λ f. f ≡ plain (flat_by frame.now devices.now)) }
+    ensures refused { IfErr result (IsFaultIn (clash_with_top scene.now devices.now)) }
 {
     let (nets, devices) = kept_parts(alloc, scene, devices)?;
+    let deck = frame.deck;
     Ok(Flat {
         title: Vec::from_slice(alloc, deck.title())?,
-        rails: name_copies(alloc, rails)?,
+        rails: name_copies(alloc, frame.rails)?,
         models: model_copies(alloc, deck.models())?,
-        top: top_copy(alloc, head)?,
+        top: top_copy(alloc, frame.head)?,
         nets,
         devices,
         passed: text_copies(alloc, deck.passed())?,
@@ -160,70 +160,54 @@ fn flat_of<'a>(
 fn text_of<'a>(
     alloc: Global,
     scene: &Scene<'a>,
-    deck: &Deck,
-    rails: &[Name],
-    head: Option<&Head>,
+    frame: &Frame<'_>,
     devices: &[FlatDevice<'a>],
 ) -> Result<Vec<u8>, FlatFault>
     requires plain { PlainDiffer devices.now }
-    ensures fits { OnOk result (clash_of scene.now devices.now ≡ None) }
-    ensures text { IfOk result (λ text. text.items ≡ flat.flat_text (flat_with deck.now rails.now (option_copied head.entry) devices.now)) }
-    ensures refused { IfErr result (λ fault. IsFound (fault_of fault) (clash_of scene.now devices.now)) }
+    ensures fits { OnOk result (clash_with_top scene.now devices.now ≡ None) }
+    ensures text { IfOk result (λ text. text.items ≡ flat_text (flat_by frame.now devices.now)) }
+    ensures refused { IfErr result (IsFaultIn (clash_with_top scene.now devices.now)) }
 {
     refuse_clash(alloc, scene, devices)?;
     let mut text = Vec::new(alloc);
-    put_flat(&mut text, deck, rails, head, devices)?;
+    put_flat(&mut text, frame, devices)?;
     Ok(text)
-}
-
-/// Refuses devices whose flat text or a flat name is too long.
-fn refuse_lengths(
-    deck: &Deck,
-    rails: &[Name],
-    head: Option<&Head>,
-    devices: &[FlatDevice<'_>],
-) -> Result<(), FlatFault>
-    ensures short { OnOk result (AreShort (flat_with deck.now rails.now (option_copied head.entry) devices.now)) }
-    ensures refused { IfErr result (λ fault. IsRefusal (fault_of fault) (judged_by deck.now rails.now (option_copied head.entry) devices.now)) }
-{
-    refuse_text(deck, rails, head, devices)?;
-    refuse_long(devices)
 }
 
 /// The flat deck of devices, or its first refusal.
 fn judged<'a>(
     alloc: Global,
     scene: &Scene<'a>,
-    deck: &Deck,
-    rails: &[Name],
-    head: Option<&Head>,
+    frame: &Frame<'_>,
     devices: &[FlatDevice<'a>],
 ) -> Result<Flat, FlatFault>
-    requires rails { scene.now.rails.now.keys ≡ once rails.now }
-    requires own { scene.now.own.now.keys ≡ once (top_ports (option_copied head)) }
+    requires rails { scene.now.rails.now.keys ≡ once frame.now.rails.now }
+    requires own { scene.now.own.now.keys ≡ once (top_ports (option_copied frame.now.head)) }
     requires plain { PlainDiffer devices.now }
-    ensures gives { Gives result (judged_by deck.now rails.now (option_copied head.entry) devices.now) }
+    ensures gives { Gives result (judged_by frame.now devices.now) }
 {
-    refuse_lengths(deck, rails, head, devices)?;
-    flat_of(alloc, scene, deck, rails, head, devices)
+    if let Some(fault) = length_refusal(frame, devices) {
+        return Err(fault);
+    }
+    flat_of(alloc, scene, frame, devices)
 }
 
 /// The flat text of devices, or the first refusal.
 fn judged_text<'a>(
     alloc: Global,
     scene: &Scene<'a>,
-    deck: &Deck,
-    rails: &[Name],
-    head: Option<&Head>,
+    frame: &Frame<'_>,
     devices: &[FlatDevice<'a>],
 ) -> Result<Vec<u8>, FlatFault>
-    requires rails { scene.now.rails.now.keys ≡ once rails.now }
-    requires own { scene.now.own.now.keys ≡ once (top_ports (option_copied head)) }
+    requires rails { scene.now.rails.now.keys ≡ once frame.now.rails.now }
+    requires own { scene.now.own.now.keys ≡ once (top_ports (option_copied frame.now.head)) }
     requires plain { PlainDiffer devices.now }
-    ensures gives { GivesOf (λ text. IsTextOf text.items) result (judged_by deck.now rails.now (option_copied head.entry) devices.now) }
+    ensures gives { GivesText result (judged_by frame.now devices.now) }
 {
-    refuse_lengths(deck, rails, head, devices)?;
-    text_of(alloc, scene, deck, rails, head, devices)
+    if let Some(fault) = length_refusal(frame, devices) {
+        return Err(fault);
+    }
+    text_of(alloc, scene, frame, devices)
 }
 
 /// The devices of cards.
@@ -244,70 +228,60 @@ pub fn expanded<'a>(
 fn flat_of_cards<'a>(
     alloc: Global,
     scene: &Scene<'a>,
-    deck: &Deck,
-    rails: &[Name],
-    chosen: Chosen<'a>,
+    frame: &Frame<'_>,
+    cards: &'a [Body],
 ) -> Result<Flat, FlatFault>
     requires scene { IsScene scene.now }
-    requires rails { scene.now.rails.now.keys ≡ once rails.now }
-    requires own { scene.now.own.now.keys ≡ once (top_ports (option_copied chosen.head)) }
-    requires names { AllDiffer (map body_name (bodies_value chosen.cards.now)) }
-    ensures gives { Gives result (judged_by deck.now rails.now (option_copied chosen.entry.head) (devices_in scene.now chosen.entry.cards.now)) }
+    requires rails { scene.now.rails.now.keys ≡ once frame.now.rails.now }
+    requires own { scene.now.own.now.keys ≡ once (top_ports (option_copied frame.now.head)) }
+    requires names { AllDiffer (map body_name (bodies_value cards.now)) }
+    ensures gives { Gives result (judged_by frame.now (devices_in scene.now cards.now)) }
 {
-    let devices = expanded(alloc, scene, chosen.cards)?;
-    judged(alloc, scene, deck, rails, chosen.head, &devices)
+    let devices = expanded(alloc, scene, cards)?;
+    judged(alloc, scene, frame, &devices)
 }
 
 /// The flat text of cards, or the first refusal.
 fn text_of_cards<'a>(
     alloc: Global,
     scene: &Scene<'a>,
-    deck: &Deck,
-    rails: &[Name],
-    chosen: Chosen<'a>,
+    frame: &Frame<'_>,
+    cards: &'a [Body],
 ) -> Result<Vec<u8>, FlatFault>
     requires scene { IsScene scene.now }
-    requires rails { scene.now.rails.now.keys ≡ once rails.now }
-    requires own { scene.now.own.now.keys ≡ once (top_ports (option_copied chosen.head)) }
-    requires names { AllDiffer (map body_name (bodies_value chosen.cards.now)) }
-    ensures gives { GivesOf (λ text. IsTextOf text.items) result (judged_by deck.now rails.now (option_copied chosen.entry.head) (devices_in scene.now chosen.entry.cards.now)) }
+    requires rails { scene.now.rails.now.keys ≡ once frame.now.rails.now }
+    requires own { scene.now.own.now.keys ≡ once (top_ports (option_copied frame.now.head)) }
+    requires names { AllDiffer (map body_name (bodies_value cards.now)) }
+    ensures gives { GivesText result (judged_by frame.now (devices_in scene.now cards.now)) }
 {
-    let devices = expanded(alloc, scene, chosen.cards)?;
-    judged_text(alloc, scene, deck, rails, chosen.head, &devices)
+    let devices = expanded(alloc, scene, cards)?;
+    judged_text(alloc, scene, frame, &devices)
 }
 
 /// The flat deck of what is chosen, or its first refusal.
-fn flat_of_chosen(
-    alloc: Global,
-    deck: &Deck,
-    rails: &[Name],
-    chosen: Chosen<'_>,
-) -> Result<Flat, FlatFault>
-    requires sound { IsReadDeck deck.now }
-    requires rails { AreRails rails.now }
-    requires names { AllDiffer (map body_name (bodies_value chosen.cards.now)) }
-    ensures gives { Gives result (judged_by deck.now rails.now (option_copied chosen.entry.head) (all_devices deck.now rails.now (bodies_value chosen.entry.cards.now))) }
+fn flat_of_chosen(alloc: Global, frame: &Frame<'_>, cards: &[Body]) -> Result<Flat, FlatFault>
+    requires sound { IsReadDeck frame.now.deck.now }
+    requires rails { AreRails frame.now.rails.now }
+    requires names { AllDiffer (map body_name (bodies_value cards.now)) }
+    ensures gives { Gives result (judged_cards frame.now (bodies_value cards.now)) }
 {
-    let tables = Tables::of(alloc, deck.subs(), rails, ports_of(chosen.head))?;
-    let scene = tables.scene(deck.subs());
-    flat_of_cards(alloc, &scene, deck, rails, chosen)
+    let subs = frame.deck.subs();
+    let tables = Tables::of(alloc, subs, frame.rails, ports_of(frame.head))?;
+    let scene = tables.scene(subs);
+    flat_of_cards(alloc, &scene, frame, cards)
 }
 
 /// The flat text of what is chosen, or the first refusal.
-fn text_of_chosen(
-    alloc: Global,
-    deck: &Deck,
-    rails: &[Name],
-    chosen: Chosen<'_>,
-) -> Result<Vec<u8>, FlatFault>
-    requires sound { IsReadDeck deck.now }
-    requires rails { AreRails rails.now }
-    requires names { AllDiffer (map body_name (bodies_value chosen.cards.now)) }
-    ensures gives { GivesOf (λ text. IsTextOf text.items) result (judged_by deck.now rails.now (option_copied chosen.entry.head) (all_devices deck.now rails.now (bodies_value chosen.entry.cards.now))) }
+fn text_of_chosen(alloc: Global, frame: &Frame<'_>, cards: &[Body]) -> Result<Vec<u8>, FlatFault>
+    requires sound { IsReadDeck frame.now.deck.now }
+    requires rails { AreRails frame.now.rails.now }
+    requires names { AllDiffer (map body_name (bodies_value cards.now)) }
+    ensures gives { GivesText result (judged_cards frame.now (bodies_value cards.now)) }
 {
-    let tables = Tables::of(alloc, deck.subs(), rails, ports_of(chosen.head))?;
-    let scene = tables.scene(deck.subs());
-    text_of_cards(alloc, &scene, deck, rails, chosen)
+    let subs = frame.deck.subs();
+    let tables = Tables::of(alloc, subs, frame.rails, ports_of(frame.head))?;
+    let scene = tables.scene(subs);
+    text_of_cards(alloc, &scene, frame, cards)
 }
 
 /// The cards that are flattened, where they expand to no more than may be; or the refusal.
@@ -316,9 +290,9 @@ fn chosen_cards<'a>(
     deck: &'a Deck,
     top: Option<&Name>,
 ) -> Result<Chosen<'a>, FlatFault>
-    ensures chosen { IfOk result (λ c. flat.chosen deck.now (option_copied top.entry) ≡ Ok (option_copied c.head, bodies_value c.cards.now)) }
+    ensures chosen { IfOk result (IsChoice deck.now (option_copied top.entry)) }
     ensures fits { IfOk result (λ c. excess_in deck.now.subs (bodies_value c.cards.now) ≡ None) }
-    ensures refused { IfErr result (λ fault. (rails : List (List ℕ)) → IsRefusal (fault_of fault) (flat.flatten deck.now rails (option_copied top.entry))) }
+    ensures refused { IfErr result (RefusesFlat deck.now (option_copied top.entry)) }
 {
     let chosen = choose(alloc, deck, top)?;
     refuse_excess(alloc, deck.subs(), chosen.cards)?;
@@ -338,7 +312,15 @@ pub fn flatten(
     ensures gives { Gives result (flat.flatten deck.now rails.now (option_copied top.entry)) }
 {
     let chosen = chosen_cards(alloc, deck, top)?;
-    flat_of_chosen(alloc, deck, rails, chosen)
+    flat_of_chosen(
+        alloc,
+        &Frame {
+            deck,
+            rails,
+            head: chosen.head,
+        },
+        chosen.cards,
+    )
 }
 
 /// The text of the flat deck, as `Flat::print` of what `flatten` gives would append it, or the first refusal. No flat deck is
@@ -351,8 +333,16 @@ pub fn flattened_text(
 ) -> Result<Vec<u8>, FlatFault>
     requires sound { IsReadDeck deck.now }
     requires rails { AreRails rails.now }
-    ensures gives { GivesOf (λ text. IsTextOf text.items) result (flat.flatten deck.now rails.now (option_copied top.entry)) }
+    ensures gives { GivesText result (flat.flatten deck.now rails.now (option_copied top.entry)) }
 {
     let chosen = chosen_cards(alloc, deck, top)?;
-    text_of_chosen(alloc, deck, rails, chosen)
+    text_of_chosen(
+        alloc,
+        &Frame {
+            deck,
+            rails,
+            head: chosen.head,
+        },
+        chosen.cards,
+    )
 }

@@ -1,17 +1,20 @@
-ghost use Rattle.std.specs.Prelude.{◌≡◌, ◌∷◌, [], length, map, flat_map, option_to_list, Some};
+ghost use Rattle.std.specs.Prelude.{◌≡◌, ◌∷◌, [], length, map, flat_map, Some};
 ghost use Rattle.std.specs.Option.{option_copied};
 ghost use Rattle.gl_text.specs.Cards as cards;
 ghost use Rattle.gl_text.specs.Cards.{spaced};
 ghost use Rattle.gl_text.specs.Decks.{line_of, global_line, model_line, passed_line};
 ghost use Rattle.gl_text.specs.Flattening as flat;
-ghost use Rattle.gl_text.specs.Flattening.{path_text, around, flat_text, flat_line};
+ghost use Rattle.gl_text.specs.Flattening.{path_text, flat_text, flat_line, top_net};
 ghost use Rattle.gl_card.specs.Lines.{spaced_all};
 ghost use Rattle.gl_flat.specs.Lengths.{after};
+ghost use Rattle.gl_flat.specs.Lines.{devices_text, model_text, nets_text};
 ghost use Rattle.gl_flat.specs.LongNames.{IsCountable};
+ghost use Rattle.gl_flat.specs.Steps.{flat_by};
 
 use crate::device::FlatDevice;
+use crate::frame::Frame;
 use crate::net::Net;
-use crate::{Deck, DevCard, Head, ModelCard, Name};
+use crate::{Head, ModelCard, Name};
 
 /// Adds a text's length. A count that would be too large stays at the largest.
 fn add(total: usize, text: &[u8]) -> usize
@@ -88,7 +91,7 @@ fn add_node(total: usize, net: &Net<'_>) -> usize
 
 /// Adds the lengths of spaces and nets' flat names.
 fn add_nodes(total: usize, nets: &[Net<'_>]) -> usize
-    ensures total { result ≡ after total (spaced_all (map flat.net_name nets.now)) }
+    ensures total { result ≡ after total (nets_text nets.now) }
 {
     let mut sum = total;
     for net in nets {
@@ -99,7 +102,7 @@ fn add_nodes(total: usize, nets: &[Net<'_>]) -> usize
 
 /// Adds the lengths of spaces and names of nets of the top.
 fn add_top_nodes(total: usize, names: &[Name]) -> usize
-    ensures total { result ≡ after total (spaced_all (map flat.net_name (map flat.top_net names.now))) }
+    ensures total { result ≡ after total (nets_text (map top_net names.now)) }
 {
     let mut sum = total;
     for name in names {
@@ -110,7 +113,7 @@ fn add_top_nodes(total: usize, names: &[Name]) -> usize
 
 /// Adds the lengths of spaces and a device's nets.
 fn add_places(total: usize, device: &FlatDevice<'_>) -> usize
-    ensures total { result ≡ after total (spaced_all (map flat.net_name device.now.nets)) }
+    ensures total { result ≡ after total (nets_text device.now.nets) }
 {
     match &device.nets {
         None => add_top_nodes(total, device.card.nodes()),
@@ -120,7 +123,7 @@ fn add_places(total: usize, device: &FlatDevice<'_>) -> usize
 
 /// Adds the length of a space and a word, if there is a word.
 fn add_option(total: usize, word: Option<&Name>) -> usize
-    ensures total { result ≡ after total (spaced_all (option_to_list (option_copied word.entry))) }
+    ensures total { result ≡ after total (model_text (option_copied word.entry)) }
 {
     match word {
         Some(word) => add_word(total, word.as_bytes()),
@@ -226,7 +229,7 @@ fn add_ends(total: usize, name: &Name) -> usize
 
 /// Adds the lengths of devices' lines, between the cards of the top subcircuit if there is one.
 fn add_around(total: usize, head: Option<&Head>, devices: &[FlatDevice<'_>]) -> usize
-    ensures total { result ≡ after total (around (option_copied head.entry) (flat_map flat_line devices.now)) }
+    ensures total { result ≡ after total (devices_text (option_copied head.entry) devices.now) }
 {
     match head {
         None => add_devices(total, devices),
@@ -257,18 +260,14 @@ fn add_passed(total: usize, texts: &[Vec<u8>]) -> usize
 }
 
 /// The length of a flat deck's text, or the largest count.
-pub fn text_length(
-    deck: &Deck,
-    rails: &[Name],
-    head: Option<&Head>,
-    devices: &[FlatDevice<'_>],
-) -> usize
-    ensures length { result ≡ after 0 (flat_text (record { title = deck.now.title; rails = rails.now; models = deck.now.models; top = option_copied head.entry; devices = devices.now; passed = deck.now.passed })) }
+pub fn text_length(frame: &Frame<'_>, devices: &[FlatDevice<'_>]) -> usize
+    ensures length { result ≡ after 0 (flat_text (flat_by frame.now devices.now)) }
 {
+    let deck = frame.deck;
     let titled = add_text(0, deck.title());
-    let railed = add_rails(titled, rails);
+    let railed = add_rails(titled, frame.rails);
     let modelled = add_models(railed, deck.models());
-    let filled = add_around(modelled, head, devices);
+    let filled = add_around(modelled, frame.head, devices);
     let passed = add_passed(filled, deck.passed());
     add_text(passed, b".end")
 }

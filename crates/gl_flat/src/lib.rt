@@ -12,6 +12,7 @@ mod fault;
 mod flat;
 mod flat_name;
 mod flattening;
+mod frame;
 mod laws;
 mod length;
 mod long;
@@ -25,8 +26,6 @@ mod scene;
 mod seen;
 mod step;
 mod tables;
-#[cfg(test)]
-mod tests;
 mod text;
 mod way;
 
@@ -35,7 +34,7 @@ pub use fault::{FlatFault, What};
 pub use flat::{Flat, KeptDevice};
 pub use flattening::{flatten, flattened_text};
 pub use gl_deck::{
-    Body, CallCard, Deck, DevCard, Head, Letter, Memory, ModelCard, Name, Sub, Tail,
+    Body, CallCard, Deck, DevCard, Head, Letter, Memory, ModelCard, Name, Sub, Subs, Tail,
 };
 pub use laws::{flat_decks_are_bounded, flat_names_are_one_to_one, plain_decks_stay};
 pub use names::Names;

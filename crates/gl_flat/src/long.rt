@@ -1,8 +1,7 @@
-ghost use Rattle.gl_fault.specs.Refusals.{when};
-ghost use Rattle.std.specs.Prelude.{◌≡◌, ◌<◌, ◌^◌, map, flat_map, nat_lt, option_map};
-ghost use Rattle.gl_text.specs.LogicalLines.{NAME as MOST_BYTES, long_flat_name};
+ghost use Rattle.std.specs.Prelude.{◌≡◌, ◌<◌, ◌^◌, map, flat_map, option_map};
+ghost use Rattle.gl_text.specs.LogicalLines.{long_flat_name};
 ghost use Rattle.gl_text.specs.Flattening.{bearers, net, top_net, long_in};
-ghost use Rattle.gl_flat.specs.LongNames.{AreCountable};
+ghost use Rattle.gl_flat.specs.LongNames.{AreCountable, long_length};
 
 use crate::Name;
 use crate::device::FlatDevice;
@@ -15,7 +14,7 @@ const NAME: usize = 1024;
 /// A length, if a flat name of it is too long.
 fn too_long(len: usize) -> Option<u32>
     requires short { len < 2 ^ 32 }
-    ensures long { option_map long_flat_name result ≡ when (nat_lt MOST_BYTES len) (long_flat_name len) }
+    ensures long { option_map long_flat_name result ≡ long_length len }
 {
     if len > NAME {
         return Some(len as u32);

@@ -20,7 +20,8 @@ fn put_step(out: &mut Vec<u8>, name: &Name) -> Result<(), AllocError>
 
 /// Appends a path.
 fn put_path(out: &mut Vec<u8>, path: &[&Name]) -> Result<(), AllocError>
-    ensures ok { OnOk result (out.new.items ≡ out.old.items ++ path_text (map (λ n. n.now) path.now)) }
+    ensures ok { OnOk result (out.new.items
+        ≡ out.old.items ++ path_text (map (λ n. n.now) path.now)) }
 {
     for name in path {
         put_step(out, name)?;

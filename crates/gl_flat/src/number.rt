@@ -1,13 +1,9 @@
-ghost use Rattle.std.specs.Prelude.{◌≡◌, ◌<◌, ◌^◌, ◌∷◌, [], Ok, length, map, flat_map, OnOk, IfOk, IfErr};
-ghost use Rattle.indexmap.specs.IndexSet.{insert_all};
-ghost use Rattle.gl_text.specs.LogicalLines.{same_text};
+ghost use Rattle.std.specs.Prelude.{◌≡◌, ◌∷◌, [], Ok, map, flat_map, OnOk, IfOk, IfErr};
 ghost use Rattle.gl_text.specs.Flattening as flat;
 ghost use Rattle.gl_text.specs.Flattening.{bearers};
-ghost use Rattle.gl_base.specs.BaseCircuit.{net_number};
 ghost use Rattle.gl_flat.specs.Kept.{kept};
-ghost use Rattle.gl_fault.specs.Refusals.{IsRefusal};
-ghost use Rattle.gl_flat.specs.Refusals.{fault_of};
-ghost use Rattle.gl_flat.specs.SeenNames.{net_names, seen_all};
+ghost use Rattle.gl_flat.specs.Refusals.{IsFaultOf};
+ghost use Rattle.gl_flat.specs.SeenNames.{HasRoom, bearers_of, top_nets, net_names, number_in, numbers_in, seen_all, seen_one, top_bearers};
 
 use crate::copy::{option_copy, tail_copy};
 use crate::device::FlatDevice;
@@ -19,10 +15,10 @@ use std::alloc::Global;
 
 /// Adds a net, and gives its number.
 fn number_net<'a>(alloc: Global, seen: &mut Seen<'a>, net: &Net<'a>) -> Result<u32, FlatFault>
-    requires few { length (insert_all same_text (net_names seen.old) (flat.net_name net.now ∷ [])) < 2 ^ 32 }
-    ensures ok { OnOk result (seen_all seen.old (flat.net net.now ∷ []) ≡ Ok seen.new) }
-    ensures number { IfOk result (λ number. number ≡ net_number (net_names seen.new) (flat.net_name net.now)) }
-    ensures refused { IfErr result (λ fault. IsRefusal (fault_of fault) (seen_all seen.old (flat.net net.now ∷ []))) }
+    requires few { HasRoom seen.old (flat.net_name net.now ∷ []) }
+    ensures ok { OnOk result (seen_one seen.old (flat.net net.now) ≡ Ok seen.new) }
+    ensures number { IfOk result (λ number. number ≡ number_in seen.new net.now) }
+    ensures refused { IfErr result (IsFaultOf (seen_one seen.old (flat.net net.now))) }
 {
     let number = seen.add_net(alloc, net)?;
     Ok(number as u32)
@@ -34,10 +30,10 @@ fn number_nets<'a>(
     seen: &mut Seen<'a>,
     nets: &[Net<'a>],
 ) -> Result<Vec<u32>, FlatFault>
-    requires few { length (insert_all same_text (net_names seen.old) (map flat.net_name nets.now)) < 2 ^ 32 }
+    requires few { HasRoom seen.old (map flat.net_name nets.now) }
     ensures ok { OnOk result (seen_all seen.old (map flat.net nets.now) ≡ Ok seen.new) }
-    ensures numbers { IfOk result (λ numbers. numbers.items ≡ map (λ n. net_number (net_names seen.new) (flat.net_name n)) nets.now) }
-    ensures refused { IfErr result (λ fault. IsRefusal (fault_of fault) (seen_all seen.old (map flat.net nets.now))) }
+    ensures numbers { IfOk result (λ numbers. numbers.items ≡ numbers_in seen.new nets.now) }
+    ensures refused { IfErr result (IsFaultOf (seen_all seen.old (map flat.net nets.now))) }
 {
     let mut numbers = Vec::with_capacity(alloc, nets.len())?;
     for net in nets {
@@ -52,10 +48,10 @@ fn number_top_nets<'a>(
     seen: &mut Seen<'a>,
     names: &'a [Name],
 ) -> Result<Vec<u32>, FlatFault>
-    requires few { length (insert_all same_text (net_names seen.old) (map flat.net_name (map flat.top_net names.now))) < 2 ^ 32 }
-    ensures ok { OnOk result (seen_all seen.old (map flat.net (map flat.top_net names.now)) ≡ Ok seen.new) }
-    ensures numbers { IfOk result (λ numbers. numbers.items ≡ map (λ n. net_number (net_names seen.new) (flat.net_name n)) (map flat.top_net names.now)) }
-    ensures refused { IfErr result (λ fault. IsRefusal (fault_of fault) (seen_all seen.old (map flat.net (map flat.top_net names.now)))) }
+    requires few { HasRoom seen.old (map flat.net_name (top_nets names.now)) }
+    ensures ok { OnOk result (seen_all seen.old (top_bearers names.now) ≡ Ok seen.new) }
+    ensures numbers { IfOk result (λ numbers. numbers.items ≡ numbers_in seen.new (top_nets names.now)) }
+    ensures refused { IfErr result (IsFaultOf (seen_all seen.old (top_bearers names.now))) }
 {
     let mut numbers = Vec::with_capacity(alloc, names.len())?;
     for name in names {
@@ -71,10 +67,10 @@ fn number_places<'a>(
     seen: &mut Seen<'a>,
     device: &FlatDevice<'a>,
 ) -> Result<Vec<u32>, FlatFault>
-    requires few { length (insert_all same_text (net_names seen.old) (map flat.net_name device.now.nets)) < 2 ^ 32 }
+    requires few { HasRoom seen.old (map flat.net_name device.now.nets) }
     ensures ok { OnOk result (seen_all seen.old (map flat.net device.now.nets) ≡ Ok seen.new) }
-    ensures numbers { IfOk result (λ numbers. numbers.items ≡ map (λ n. net_number (net_names seen.new) (flat.net_name n)) device.now.nets) }
-    ensures refused { IfErr result (λ fault. IsRefusal (fault_of fault) (seen_all seen.old (map flat.net device.now.nets))) }
+    ensures numbers { IfOk result (λ numbers. numbers.items ≡ numbers_in seen.new device.now.nets) }
+    ensures refused { IfErr result (IsFaultOf (seen_all seen.old (map flat.net device.now.nets))) }
 {
     match &device.nets {
         None => number_top_nets(alloc, seen, device.card.nodes()),
@@ -88,10 +84,10 @@ fn number_device<'a>(
     seen: &mut Seen<'a>,
     device: &FlatDevice<'a>,
 ) -> Result<KeptDevice, FlatFault>
-    requires few { length (insert_all same_text (net_names seen.old) (map flat.net_name device.now.nets)) < 2 ^ 32 }
+    requires few { HasRoom seen.old (map flat.net_name device.now.nets) }
     ensures ok { OnOk result (seen_all seen.old (bearers device.now) ≡ Ok seen.new) }
     ensures device { IfOk result (λ d. d ≡ kept (net_names seen.new) device.now) }
-    ensures refused { IfErr result (λ fault. IsRefusal (fault_of fault) (seen_all seen.old (bearers device.now))) }
+    ensures refused { IfErr result (IsFaultOf (seen_all seen.old (bearers device.now))) }
 {
     let name = device_text(alloc, device)?;
     seen.add_device(alloc, &name)?;
@@ -113,10 +109,10 @@ pub fn number_devices<'a>(
     seen: &mut Seen<'a>,
     devices: &[FlatDevice<'a>],
 ) -> Result<Vec<KeptDevice>, FlatFault>
-    requires few { length (insert_all same_text (net_names seen.old) (flat_map (λ d. map flat.net_name d.nets) devices.now)) < 2 ^ 32 }
-    ensures ok { OnOk result (seen_all seen.old (flat_map bearers devices.now) ≡ Ok seen.new) }
+    requires few { HasRoom seen.old (flat_map (λ d. map flat.net_name d.nets) devices.now) }
+    ensures ok { OnOk result (seen_all seen.old (bearers_of devices.now) ≡ Ok seen.new) }
     ensures devices { IfOk result (λ ds. ds.items ≡ map (kept (net_names seen.new)) devices.now) }
-    ensures refused { IfErr result (λ fault. IsRefusal (fault_of fault) (seen_all seen.old (flat_map bearers devices.now))) }
+    ensures refused { IfErr result (IsFaultOf (seen_all seen.old (bearers_of devices.now))) }
 {
     let mut numbered = Vec::with_capacity(alloc, devices.len())?;
     for device in devices {

@@ -1,4 +1,4 @@
-ghost use Rattle.std.specs.Prelude.{◌≡◌, ◌∷◌, [], ◌++◌, None, Some, OnOk, is_ok, length, take, map, flat_map, option_to_list, if◌then◌else◌};
+ghost use Rattle.std.specs.Prelude.{◌≡◌, ◌∷◌, [], ◌++◌, None, Some, OnOk, is_ok, length, take, if◌then◌else◌};
 ghost use Rattle.std.specs.Option.{option_copied};
 ghost use Rattle.gl_text.specs.Cards as cards;
 ghost use Rattle.gl_text.specs.Cards.{spaced};
@@ -6,7 +6,8 @@ ghost use Rattle.gl_text.specs.Decks as decks;
 ghost use Rattle.gl_text.specs.Flattening.{around, flat_text};
 ghost use Rattle.gl_base.specs.Reports.{name_at};
 ghost use Rattle.gl_card.specs.Lines.{spaced_all};
-ghost use Rattle.gl_flat.specs.Kept.{device_line};
+ghost use Rattle.gl_flat.specs.Kept.{device_line, device_lines, numbers_text};
+ghost use Rattle.gl_flat.specs.Lines.{model_text};
 
 use crate::{Flat, Head, KeptDevice, Memory, Name};
 use gl_deck::{put_all_passed, put_ends, put_globals, put_head, put_models, put_text};
@@ -41,7 +42,7 @@ pub fn put_word(out: &mut Vec<u8>, word: &[u8]) -> Result<(), Memory>
 
 /// Appends a space and the net's name for each of the numbers.
 fn put_nodes(out: &mut Vec<u8>, nets: &[Name], nodes: &[u32]) -> Result<(), Memory>
-    ensures ok { OnOk result (out.new.items ≡ out.old.items ++ spaced_all (map (name_at nets.now) nodes.now)) }
+    ensures ok { OnOk result (out.new.items ≡ out.old.items ++ numbers_text nets.now nodes.now) }
     ensures front { take (length out.old.items) out.new.items ≡ out.old.items }
 {
     for node in nodes {
@@ -52,7 +53,7 @@ fn put_nodes(out: &mut Vec<u8>, nets: &[Name], nodes: &[u32]) -> Result<(), Memo
 
 /// Appends a space and the model's name, if there is one.
 fn put_device_model(out: &mut Vec<u8>, device: &KeptDevice) -> Result<(), Memory>
-    ensures ok { OnOk result (out.new.items ≡ out.old.items ++ spaced_all (option_to_list device.now.model)) }
+    ensures ok { OnOk result (out.new.items ≡ out.old.items ++ model_text device.now.model) }
     ensures front { take (length out.old.items) out.new.items ≡ out.old.items }
 {
     match device.model() {
@@ -88,7 +89,7 @@ fn put_device(out: &mut Vec<u8>, nets: &[Name], device: &KeptDevice) -> Result<(
 
 /// Appends the devices.
 fn put_devices(out: &mut Vec<u8>, nets: &[Name], devices: &[KeptDevice]) -> Result<(), Memory>
-    ensures ok { OnOk result (out.new.items ≡ out.old.items ++ flat_map (device_line nets.now) devices.now) }
+    ensures ok { OnOk result (out.new.items ≡ out.old.items ++ device_lines nets.now devices.now) }
     ensures front { take (length out.old.items) out.new.items ≡ out.old.items }
 {
     for device in devices {
@@ -105,7 +106,7 @@ fn put_around(
     devices: &[KeptDevice],
 ) -> Result<(), Memory>
     ensures ok { OnOk result (out.new.items
-        ≡ out.old.items ++ around (option_copied top.entry) (flat_map (device_line nets.now) devices.now)) }
+        ≡ out.old.items ++ around (option_copied top.entry) (device_lines nets.now devices.now)) }
     ensures front { take (length out.old.items) out.new.items ≡ out.old.items }
 {
     match top {
@@ -137,7 +138,8 @@ impl Flat {
     /// and `.ends` of the top subcircuit, if there is one), passed cards and `.end`, each on a line. Without memory for all of
     /// it nothing is appended.
     pub fn print(&self, out: &mut Vec<u8>) -> Result<(), Memory>
-        ensures printed { out.new.items ≡ (if is_ok result then out.old.items ++ flat_text self.now else out.old.items) }
+        ensures printed { out.new.items
+            ≡ (if is_ok result then out.old.items ++ flat_text self.now else out.old.items) }
     {
         let start = out.len();
         if put_flat(out, self).is_err() {

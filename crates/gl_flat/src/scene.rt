@@ -1,19 +1,17 @@
-ghost use Rattle.std.specs.Prelude.{◌≡◌, ◌||◌, option_map, codes, IfSome};
-ghost use Rattle.indexmap.specs.IndexMap.{values};
-ghost use Rattle.gl_text.specs.LogicalLines.{same_text};
+ghost use Rattle.std.specs.Prelude.{◌≡◌, ◌||◌, option_map, IfSome};
 ghost use Rattle.gl_text.specs.Decks as decks;
 ghost use Rattle.gl_text.specs.Flattening as flat;
 ghost use Rattle.gl_flat.specs.TopNames.{top_names};
 ghost use Rattle.gl_flat.specs.Ways.{IsScene};
 
-use crate::{Name, Sub};
-use indexmap::{IndexMap, IndexSet};
+use crate::{Name, Sub, Subs};
+use indexmap::IndexSet;
 
 /// What cards are read against.
 #[derive(Clone, Copy)]
 pub struct Scene<'a> {
-    /// The subcircuits, by name.
-    pub subs: &'a IndexMap<Name, Sub>,
+    /// The subcircuits.
+    pub subs: &'a Subs,
     /// The ports of each subcircuit, by its place.
     pub ports: &'a [IndexSet<Name>],
     /// The rails but `0`.
@@ -34,11 +32,11 @@ pub struct Callee<'a> {
 /// The subcircuit of a name.
 pub fn find<'a>(scene: &Scene<'a>, name: &Name) -> Option<Callee<'a>>
     requires scene { IsScene scene.now }
-    ensures found { option_map (λ c. c.sub.now) result ≡ decks.find_sub (values scene.now.subs.now) name.now }
+    ensures found { option_map (λ c. c.sub.now) result
+        ≡ decks.find_sub scene.now.subs.now name.now }
     ensures ports { IfSome result (λ c. c.ports.now.keys ≡ c.sub.now.head.ports) }
 {
-    let place = scene.subs.get_index_of(name)?;
-    let (_, sub) = scene.subs.get_index(place)?;
+    let (place, sub) = scene.subs.find(name)?;
     let ports = scene.ports.get(place)?;
     Some(Callee { sub, ports })
 }

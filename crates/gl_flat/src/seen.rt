@@ -1,10 +1,8 @@
-ghost use Rattle.std.specs.Prelude.{◌≡◌, ◌∷◌, ◌<◌, ◌^◌, [], Ok, length, map, filter, flat_map, OnOk, IfOk, IfErr};
+ghost use Rattle.std.specs.Prelude.{◌≡◌, ◌∷◌, ◌<◌, ◌^◌, [], Ok, length, map, OnOk, IfOk, IfErr};
 ghost use Rattle.gl_text.specs.Decks.{once};
-ghost use Rattle.gl_text.specs.Flattening.{bearers, device, device_name, net, net_name, top_net};
-ghost use Rattle.gl_base.specs.BaseCircuit.{net_number};
-ghost use Rattle.gl_fault.specs.Refusals.{IsRefusal};
-ghost use Rattle.gl_flat.specs.Refusals.{fault_of};
-ghost use Rattle.gl_flat.specs.SeenNames.{may_clash, net_names, nothing_seen, seen_all, takes_top_name as is_taken_from_top, with_device};
+ghost use Rattle.gl_text.specs.Flattening.{bearers, device, net, net_name};
+ghost use Rattle.gl_flat.specs.Refusals.{IsFaultOf};
+ghost use Rattle.gl_flat.specs.SeenNames.{bearers_of, own, net_names, nothing_seen, number_in, seen_risks, seen_one, takes_top_name as is_taken_from_top, top_bearers, with_device};
 ghost use Rattle.gl_flat.specs.TopNames.{top_names};
 
 use crate::copy::name_copy;
@@ -33,7 +31,7 @@ pub struct Seen<'a> {
 }
 
 impl<'a> Model for Seen<'a> {
-    ghost use Rattle.gl_flat.specs.SeenNames.{Seen as SeenValue};
+    ghost use Rattle.gl_flat.specs.SeenNames.{bearers_of, own, Seen as SeenValue};
     ghost use Rattle.gl_flat.specs.TopNames.{top_names};
 
     ghost Value = { SeenValue };
@@ -80,7 +78,7 @@ impl<'a> Seen<'a> {
     /// Adds a device's name that holds a dot, or refuses one that was seen.
     fn add_dotted(&mut self, alloc: Global, name: &Name) -> Result<(), FlatFault>
         ensures ok { OnOk result (with_device self.old name.now ≡ Ok self.new) }
-        ensures refused { IfErr result (λ fault. IsRefusal (fault_of fault) (with_device self.old name.now)) }
+        ensures refused { IfErr result (IsFaultOf (with_device self.old name.now)) }
     {
         if self.devices.insert(name_copy(alloc, name)?)? {
             return Ok(());
@@ -92,8 +90,8 @@ impl<'a> Seen<'a> {
 
     /// Adds a device's name, or refuses one that was seen. A name without a dot is neither looked up nor kept.
     pub fn add_device(&mut self, alloc: Global, name: &Name) -> Result<(), FlatFault>
-        ensures ok { OnOk result (seen_all self.old (device name.now ∷ []) ≡ Ok self.new) }
-        ensures refused { IfErr result (λ fault. IsRefusal (fault_of fault) (seen_all self.old (device name.now ∷ []))) }
+        ensures ok { OnOk result (seen_one self.old (device name.now) ≡ Ok self.new) }
+        ensures refused { IfErr result (IsFaultOf (seen_one self.old (device name.now))) }
     {
         if has_dot(name.as_bytes()) {
             return self.add_dotted(alloc, name);
@@ -112,9 +110,9 @@ impl<'a> Seen<'a> {
     /// Adds a net, or refuses one whose flat name another net has. Its number is given: nets are numbered from 0 by the first
     /// appearance of their flat names.
     pub fn add_net(&mut self, alloc: Global, added: &Net<'a>) -> Result<usize, FlatFault>
-        ensures ok { OnOk result (seen_all self.old (net added.now ∷ []) ≡ Ok self.new) }
-        ensures number { IfOk result (λ number. number ≡ net_number (net_names self.new) (net_name added.now)) }
-        ensures refused { IfErr result (λ fault. IsRefusal (fault_of fault) (seen_all self.old (net added.now ∷ []))) }
+        ensures ok { OnOk result (seen_one self.old (net added.now) ≡ Ok self.new) }
+        ensures number { IfOk result (λ number. number ≡ number_in self.new added.now) }
+        ensures refused { IfErr result (IsFaultOf (seen_one self.old (net added.now))) }
     {
         let name = flat_name(alloc, added)?;
         if let Some((number, _, known)) = self.nets.get_full(name.as_name()) {
@@ -148,8 +146,8 @@ impl<'a> Seen<'a> {
 
     /// Adds a net whose flat name holds a dot, or refuses it; any other net is passed over.
     fn add_dotted_net(&mut self, alloc: Global, added: &Net<'a>) -> Result<(), FlatFault>
-        ensures ok { OnOk result (seen_all self.old (filter may_clash (net added.now ∷ [])) ≡ Ok self.new) }
-        ensures refused { IfErr result (λ fault. IsRefusal (fault_of fault) (seen_all self.old (filter may_clash (net added.now ∷ [])))) }
+        ensures ok { OnOk result (seen_risks self.old (net added.now ∷ []) ≡ Ok self.new) }
+        ensures refused { IfErr result (IsFaultOf (seen_risks self.old (net added.now ∷ []))) }
     {
         if added.has_dot() {
             self.add_net(alloc, added)?;
@@ -159,8 +157,8 @@ impl<'a> Seen<'a> {
 
     /// Adds the nets of the top whose names hold a dot, or refuses the first whose flat name another net has.
     fn add_top_nets(&mut self, alloc: Global, names: &'a [Name]) -> Result<(), FlatFault>
-        ensures ok { OnOk result (seen_all self.old (filter may_clash (map net (map top_net names.now))) ≡ Ok self.new) }
-        ensures refused { IfErr result (λ fault. IsRefusal (fault_of fault) (seen_all self.old (filter may_clash (map net (map top_net names.now))))) }
+        ensures ok { OnOk result (seen_risks self.old (top_bearers names.now) ≡ Ok self.new) }
+        ensures refused { IfErr result (IsFaultOf (seen_risks self.old (top_bearers names.now))) }
     {
         for name in names {
             self.add_dotted_net(alloc, &Net::of_top(alloc, name))?;
@@ -170,8 +168,8 @@ impl<'a> Seen<'a> {
 
     /// Adds the nets whose flat names hold a dot, or refuses the first whose flat name another net has.
     fn add_nets(&mut self, alloc: Global, nets: &[Net<'a>]) -> Result<(), FlatFault>
-        ensures ok { OnOk result (seen_all self.old (filter may_clash (map net nets.now)) ≡ Ok self.new) }
-        ensures refused { IfErr result (λ fault. IsRefusal (fault_of fault) (seen_all self.old (filter may_clash (map net nets.now)))) }
+        ensures ok { OnOk result (seen_risks self.old (map net nets.now) ≡ Ok self.new) }
+        ensures refused { IfErr result (IsFaultOf (seen_risks self.old (map net nets.now))) }
     {
         for added in nets {
             self.add_dotted_net(alloc, added)?;
@@ -181,8 +179,8 @@ impl<'a> Seen<'a> {
 
     /// Adds a device's nets whose flat names hold a dot, or refuses the first whose flat name another net has.
     fn add_places(&mut self, alloc: Global, added: &FlatDevice<'a>) -> Result<(), FlatFault>
-        ensures ok { OnOk result (seen_all self.old (filter may_clash (map net added.now.nets)) ≡ Ok self.new) }
-        ensures refused { IfErr result (λ fault. IsRefusal (fault_of fault) (seen_all self.old (filter may_clash (map net added.now.nets)))) }
+        ensures ok { OnOk result (seen_risks self.old (map net added.now.nets) ≡ Ok self.new) }
+        ensures refused { IfErr result (IsFaultOf (seen_risks self.old (map net added.now.nets))) }
     {
         match &added.nets {
             None => self.add_top_nets(alloc, added.card.nodes()),
@@ -192,8 +190,8 @@ impl<'a> Seen<'a> {
 
     /// Adds a device's flat name, or refuses one that was seen. A name without a dot is not even written.
     fn add_own(&mut self, alloc: Global, added: &FlatDevice<'a>) -> Result<(), FlatFault>
-        ensures ok { OnOk result (seen_all self.old (device (device_name added.now) ∷ []) ≡ Ok self.new) }
-        ensures refused { IfErr result (λ fault. IsRefusal (fault_of fault) (seen_all self.old (device (device_name added.now) ∷ []))) }
+        ensures ok { OnOk result (seen_one self.old (own added.now) ≡ Ok self.new) }
+        ensures refused { IfErr result (IsFaultOf (seen_one self.old (own added.now))) }
     {
         if added.has_dot() {
             return self.add_dotted(alloc, &device_text(alloc, added)?);
@@ -203,8 +201,8 @@ impl<'a> Seen<'a> {
 
     /// Adds what may clash of a device: its name and its nets. Or refuses the first that does.
     fn add_bearers(&mut self, alloc: Global, added: &FlatDevice<'a>) -> Result<(), FlatFault>
-        ensures ok { OnOk result (seen_all self.old (filter may_clash (bearers added.now)) ≡ Ok self.new) }
-        ensures refused { IfErr result (λ fault. IsRefusal (fault_of fault) (seen_all self.old (filter may_clash (bearers added.now)))) }
+        ensures ok { OnOk result (seen_risks self.old (bearers added.now) ≡ Ok self.new) }
+        ensures refused { IfErr result (IsFaultOf (seen_risks self.old (bearers added.now))) }
     {
         self.add_own(alloc, added)?;
         self.add_places(alloc, added)
@@ -212,8 +210,8 @@ impl<'a> Seen<'a> {
 
     /// Adds what may clash of devices, or refuses the first that does.
     pub fn add_all(&mut self, alloc: Global, devices: &[FlatDevice<'a>]) -> Result<(), FlatFault>
-        ensures ok { OnOk result (seen_all self.old (filter may_clash (flat_map bearers devices.now)) ≡ Ok self.new) }
-        ensures refused { IfErr result (λ fault. IsRefusal (fault_of fault) (seen_all self.old (filter may_clash (flat_map bearers devices.now)))) }
+        ensures ok { OnOk result (seen_risks self.old (bearers_of devices.now) ≡ Ok self.new) }
+        ensures refused { IfErr result (IsFaultOf (seen_risks self.old (bearers_of devices.now))) }
     {
         for added in devices {
             self.add_bearers(alloc, added)?;

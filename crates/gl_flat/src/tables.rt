@@ -1,11 +1,10 @@
 ghost use Rattle.std.specs.Prelude.{◌≡◌, map, IfOk};
-ghost use Rattle.indexmap.specs.IndexMap.{values};
 ghost use Rattle.gl_text.specs.Decks.{once};
 
 use crate::copy::name_copy;
 use crate::scene::Scene;
-use crate::{Name, Sub};
-use indexmap::{IndexMap, IndexSet};
+use crate::{Name, Sub, Subs};
+use indexmap::IndexSet;
 use std::alloc::{AllocError, Global};
 
 /// Each of the names once.
@@ -21,7 +20,8 @@ fn name_set(alloc: Global, names: &[Name]) -> Result<IndexSet<Name>, AllocError>
 
 /// The ports of subcircuits, by their places.
 fn port_sets(alloc: Global, subs: &[Sub]) -> Result<Vec<IndexSet<Name>>, AllocError>
-    ensures ports { IfOk result (λ sets. map (λ s. s.keys) sets.items ≡ map (λ s. once s.head.ports) subs.now) }
+    ensures ports { IfOk result (λ sets. map (λ s. s.keys) sets.items
+        ≡ map (λ s. once s.head.ports) subs.now) }
 {
     let mut sets = Vec::with_capacity(alloc, subs.len())?;
     for sub in subs {
@@ -45,25 +45,27 @@ impl Tables {
     /// The tables of subcircuits, rails and the ports of a top.
     pub fn of(
         alloc: Global,
-        subs: &IndexMap<Name, Sub>,
+        subs: &Subs,
         rails: &[Name],
         own: &[Name],
     ) -> Result<Tables, AllocError>
-        ensures ports { IfOk result (λ t. map (λ s. s.keys) t.ports.items ≡ map (λ s. once s.head.ports) (values subs.now)) }
+        ensures ports { IfOk result (λ t. map (λ s. s.keys) t.ports.items
+            ≡ map (λ s. once s.head.ports) subs.now) }
         ensures rails { IfOk result (λ t. t.rails.keys ≡ once rails.now) }
         ensures own { IfOk result (λ t. t.own.keys ≡ once own.now) }
     {
         Ok(Tables {
-            ports: port_sets(alloc, subs.values().as_slice())?,
+            ports: port_sets(alloc, subs.as_slice())?,
             rails: name_set(alloc, rails)?,
             own: name_set(alloc, own)?,
         })
     }
 
     /// What cards are read against, with the subcircuits of the tables.
-    pub fn scene<'a>(&'a self, subs: &'a IndexMap<Name, Sub>) -> Scene<'a>
+    pub fn scene<'a>(&'a self, subs: &'a Subs) -> Scene<'a>
         ensures subs { result.subs.now ≡ subs.now }
-        ensures ports { map (λ s. s.keys) result.ports.now ≡ map (λ s. s.keys) self.now.ports.items }
+        ensures ports { map (λ s. s.keys) result.ports.now
+            ≡ map (λ s. s.keys) self.now.ports.items }
         ensures rails { result.rails.now ≡ self.now.rails }
         ensures own { result.own.now ≡ self.now.own }
     {

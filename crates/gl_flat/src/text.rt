@@ -1,21 +1,21 @@
 //! The flat text of devices that are reached, without a flat deck between.
-ghost use Rattle.std.specs.Prelude.{◌≡◌, ◌∷◌, [], ◌++◌, OnOk, map, flat_map, option_to_list};
+ghost use Rattle.std.specs.Prelude.{◌≡◌, ◌∷◌, [], ◌++◌, OnOk, map, flat_map};
 ghost use Rattle.std.specs.Option.{option_copied};
-ghost use Rattle.gl_text.specs.Flattening as flat;
-ghost use Rattle.gl_text.specs.Flattening.{around, flat_text, flat_line};
-ghost use Rattle.gl_card.specs.Lines.{spaced_all};
-ghost use Rattle.gl_flat.specs.Steps.{flat_with};
+ghost use Rattle.gl_text.specs.Flattening.{flat_text, flat_line, top_net};
+ghost use Rattle.gl_flat.specs.Lines.{devices_text, model_text, nets_text};
+ghost use Rattle.gl_flat.specs.Steps.{flat_by};
 
 use crate::device::FlatDevice;
+use crate::frame::Frame;
 use crate::naming::{put_device_name, put_net};
 use crate::net::Net;
 use crate::print::{put_tail, put_word};
-use crate::{Deck, Head, Memory, Name};
+use crate::{Head, Memory, Name};
 use gl_deck::{put_all_passed, put_ends, put_globals, put_head, put_models, put_text};
 
 /// Appends a space and a net's flat name.
 fn put_node(out: &mut Vec<u8>, net: &Net<'_>) -> Result<(), Memory>
-    ensures ok { OnOk result (out.new.items ≡ out.old.items ++ spaced_all (flat.net_name net.now ∷ [])) }
+    ensures ok { OnOk result (out.new.items ≡ out.old.items ++ nets_text (net.now ∷ [])) }
 {
     out.push(b' ')?;
     put_net(out, net)?;
@@ -24,7 +24,7 @@ fn put_node(out: &mut Vec<u8>, net: &Net<'_>) -> Result<(), Memory>
 
 /// Appends a space and the flat name of each of the nets.
 fn put_nodes(out: &mut Vec<u8>, nets: &[Net<'_>]) -> Result<(), Memory>
-    ensures ok { OnOk result (out.new.items ≡ out.old.items ++ spaced_all (map flat.net_name nets.now)) }
+    ensures ok { OnOk result (out.new.items ≡ out.old.items ++ nets_text nets.now) }
 {
     for net in nets {
         put_node(out, net)?;
@@ -34,7 +34,7 @@ fn put_nodes(out: &mut Vec<u8>, nets: &[Net<'_>]) -> Result<(), Memory>
 
 /// Appends a space and each of the names of nets of the top.
 fn put_top_nodes(out: &mut Vec<u8>, names: &[Name]) -> Result<(), Memory>
-    ensures ok { OnOk result (out.new.items ≡ out.old.items ++ spaced_all (map flat.net_name (map flat.top_net names.now))) }
+    ensures ok { OnOk result (out.new.items ≡ out.old.items ++ nets_text (map top_net names.now)) }
 {
     for name in names {
         put_word(out, name.as_bytes())?;
@@ -44,7 +44,7 @@ fn put_top_nodes(out: &mut Vec<u8>, names: &[Name]) -> Result<(), Memory>
 
 /// Appends a space and the flat name of each of a device's nets.
 fn put_places(out: &mut Vec<u8>, device: &FlatDevice<'_>) -> Result<(), Memory>
-    ensures ok { OnOk result (out.new.items ≡ out.old.items ++ spaced_all (map flat.net_name device.now.nets)) }
+    ensures ok { OnOk result (out.new.items ≡ out.old.items ++ nets_text device.now.nets) }
 {
     match &device.nets {
         None => put_top_nodes(out, device.card.nodes()),
@@ -54,7 +54,8 @@ fn put_places(out: &mut Vec<u8>, device: &FlatDevice<'_>) -> Result<(), Memory>
 
 /// Appends a space and a model's name, if there is one.
 fn put_model(out: &mut Vec<u8>, model: Option<&Name>) -> Result<(), Memory>
-    ensures ok { OnOk result (out.new.items ≡ out.old.items ++ spaced_all (option_to_list (option_copied model.entry))) }
+    ensures ok { OnOk result (out.new.items
+        ≡ out.old.items ++ model_text (option_copied model.entry)) }
 {
     match model {
         Some(name) => put_word(out, name.as_bytes()),
@@ -90,7 +91,8 @@ fn put_around(
     head: Option<&Head>,
     devices: &[FlatDevice<'_>],
 ) -> Result<(), Memory>
-    ensures ok { OnOk result (out.new.items ≡ out.old.items ++ around (option_copied head.entry) (flat_map flat_line devices.now)) }
+    ensures ok { OnOk result (out.new.items
+        ≡ out.old.items ++ devices_text (option_copied head.entry) devices.now) }
 {
     match head {
         None => put_devices(out, devices),
@@ -105,17 +107,17 @@ fn put_around(
 /// Appends the text of the flat deck of devices.
 pub fn put_flat(
     out: &mut Vec<u8>,
-    deck: &Deck,
-    rails: &[Name],
-    head: Option<&Head>,
+    frame: &Frame<'_>,
     devices: &[FlatDevice<'_>],
 ) -> Result<(), Memory>
-    ensures ok { OnOk result (out.new.items ≡ out.old.items ++ flat_text (flat_with deck.now rails.now (option_copied head.entry) devices.now)) }
+    ensures ok { OnOk result (out.new.items
+        ≡ out.old.items ++ flat_text (flat_by frame.now devices.now)) }
 {
+    let deck = frame.deck;
     put_text(out, deck.title())?;
-    put_globals(out, rails)?;
+    put_globals(out, frame.rails)?;
     put_models(out, deck.models())?;
-    put_around(out, head, devices)?;
+    put_around(out, frame.head, devices)?;
     put_all_passed(out, deck.passed())?;
     put_text(out, b".end")?;
     Ok(())

@@ -1,6 +1,5 @@
-ghost use Rattle.std.specs.Prelude.{◌≡◌, ◌++◌, ◌∷◌, [], map, IfOk, if◌then◌else◌};
-ghost use Rattle.gl_text.specs.Flattening as flat;
-ghost use Rattle.gl_flat.specs.Ways.{place_of, path_of};
+ghost use Rattle.std.specs.Prelude.{◌≡◌, ◌++◌, ◌∷◌, [], map, IfOk};
+ghost use Rattle.gl_flat.specs.Ways.{device_behind, net_behind, nets_behind, path_of, scope_net};
 
 use crate::device::FlatDevice;
 use crate::net::Net;
@@ -42,7 +41,7 @@ fn own_net<'a>(
     way: &[Step<'a>],
     name: &'a Name,
 ) -> Result<Net<'a>, AllocError>
-    ensures net { IfOk result (λ net. net ≡ (if flat.is_rail rails.now.keys name.now then flat.top_net name.now else record { path = path_of way.now; name = name.now })) }
+    ensures net { IfOk result (λ net. net ≡ scope_net rails.now.keys way.now name.now) }
 {
     if is_rail(rails, name) {
         return Ok(Net::of_top(alloc, name));
@@ -60,7 +59,7 @@ fn net_at<'a>(
     way: &[Step<'a>],
     name: &'a Name,
 ) -> Result<Net<'a>, AllocError>
-    ensures net { IfOk result (λ net. net ≡ flat.net_of rails.now.keys (place_of rails.now.keys way.now) name.now) }
+    ensures net { IfOk result (λ net. net ≡ net_behind rails.now.keys way.now name.now) }
 {
     if let [before @ .., step] = way {
         if let Some(node) = actual(step, name) {
@@ -77,7 +76,7 @@ fn nets_at<'a>(
     way: &[Step<'a>],
     names: &'a [Name],
 ) -> Result<Vec<Net<'a>>, AllocError>
-    ensures nets { IfOk result (λ nets. nets.items ≡ map (flat.net_of rails.now.keys (place_of rails.now.keys way.now)) names.now) }
+    ensures nets { IfOk result (λ nets. nets.items ≡ nets_behind rails.now.keys way.now names.now) }
 {
     let mut nets = Vec::with_capacity(alloc, names.len())?;
     for name in names {
@@ -93,7 +92,7 @@ pub fn device_at<'a>(
     way: &[Step<'a>],
     card: &'a DevCard,
 ) -> Result<FlatDevice<'a>, AllocError>
-    ensures device { IfOk result (λ d. d ≡ record { path = (place_of rails.now.keys way.now).path; card = card.now; nets = map (flat.net_of rails.now.keys (place_of rails.now.keys way.now)) card.now.nodes }) }
+    ensures device { IfOk result (λ d. d ≡ device_behind rails.now.keys way.now card.now) }
 {
     if way.is_empty() {
         return Ok(FlatDevice {

@@ -60,7 +60,7 @@ pub fn searched_cells<'a>(
 ) -> Result<Vec<&'a Sub>, AllocError>
     ensures cells { IfOk result (λ cells. map (λ c. c.now) cells.items ≡ searched (cells_at level library.now)) }
 {
-    let subs = library.deck().subs().values().as_slice();
+    let subs = library.deck().subs().as_slice();
     let cells = library.cells();
     let mut found = Vec::new(alloc);
     for (sub, cell) in subs.iter().zip(cells) {

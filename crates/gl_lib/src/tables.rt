@@ -27,7 +27,7 @@ pub fn tables_of(alloc: Global, parts: &Parts) -> Result<Tables, AllocError>
     let flat = parts.flat;
     let library = parts.library.deck();
     let words = words_of(alloc, flat.models(), library.models())?;
-    let subs = library.subs().values().as_slice();
+    let subs = library.subs().as_slice();
     let kinds = Kinds::of(alloc, &words, flat.devices(), subs)?;
     let rails = rail_table(alloc, flat.rails())?;
     Ok(Tables {

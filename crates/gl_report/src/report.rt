@@ -59,13 +59,7 @@ fn put_rounds(
     put(out, b"round ")?;
     put_number(out, 0)?;
     put(out, b"\n")?;
-    put_cells(
-        out,
-        names,
-        library.deck().subs().values().as_slice(),
-        cells,
-        finds,
-    )
+    put_cells(out, names, library.deck().subs().as_slice(), cells, finds)
 }
 
 /// Appends the report. What stood before stays, also where no memory is found.

@@ -1,5 +1,5 @@
 -- A flat deck flattens again, and its text to itself.
-use Rattle.std.proofs.Common.{◌≡◌, ◌≤◌, ◌+◌, ℕ, List, ◌∷◌, ◌++◌, length, map, ltb, true, Option, Result, Ok, refl, sym, ap, ◌∙◌, subst, flat_map, option_map, codes}
+use Rattle.std.proofs.Common.{◌≡◌, ◌≤◌, ◌+◌, ℕ, List, ◌∷◌, ◌++◌, length, map, ltb, true, Option, None, Result, Ok, refl, sym, ap, ◌∙◌, subst, flat_map, option_map, codes}
 use Rattle.gl_text.specs.LogicalLines.{Fault, long_text}
 use Rattle.gl_fault.specs.Refusals.{first_some, when, or_else, ◌>>=◌}
 use Rattle.gl_text.specs.Cards.{Head}
@@ -79,9 +79,6 @@ flatten_again d rails top flat h =
 
 -- ---- its text
 
-ok_is : (x y : List ℕ) (r : Result (List ℕ) Fault) → r ≡ Ok x → r ≡ Ok y → x ≡ y
-ok_is x y r e f = cc
-
 -- the flat deck of a flat text, by the deck that is read from it
 read_again : (flat : Flat) (again : Deck) (top : Option (List ℕ)) → read_deck true (deck_text (deck_of flat)) ≡ Ok again → unnumbered again ≡ unnumbered (deck_of flat) → flatten (deck_of flat) flat.rails top ≡ Ok (all_at_top flat) → flat_of top (flat_text flat) ≡ Ok (all_at_top flat)
 read_again flat again top read same h =
@@ -97,7 +94,7 @@ pub text_again : (top : Option (List ℕ)) (bytes text : List ℕ) → flat_job 
 text_again top bytes text h =
     let a = bind_ok (flat_of top bytes) (λ f. Ok (flat_text f)) text h in
     let flat = a.0 in
-    let e : flat_text flat ≡ text = ok_is (flat_text flat) text (Ok (flat_text flat)) refl a.2 in
+    let e : flat_text flat ≡ text = (or_else_ok {F = Fault} None (flat_text flat) text a.2).1 in
     let b = bind_ok (read_deck true bytes) (λ deck. flatten deck deck.globals top) flat a.1 in
     let d = b.0 in
     let i = read_fine true bytes d b.1 in

@@ -9,20 +9,14 @@ use Rattle.gl_text.specs.Flattening.{DEPTH, CARDS, DEVICES, Net, FlatDevice, Pla
 use Rattle.gl_printed.specs.FlatDecks.{flat_cards, subs_around, top_without, deck_of}
 use Rattle.gl_printed.proofs.FlatAlike.{faults_flat}
 use Rattle.gl_printed.proofs.FlatDeckLaws.{flat_text_is}
+use Rattle.gl_flat.proofs.PlainLaws.{card_stays}
 use Rattle.gl_steady.proofs.AtTop.{at_top, all_at_top}
 
 -- ---- cards
 
-nodes_stay : (ns : List (List ℕ)) → map net_name (map top_net ns) ≡ ns
-nodes_stay [] = refl
-nodes_stay (n ∷ ns) = ap (λ xs. n ∷ xs) (nodes_stay ns)
-
-card_stays : (d : FlatDevice) → flat_card (at_top d) ≡ flat_card d
-card_stays d = ap (λ ns. record { name = device_name d; nodes = ns; model = d.card.model; tail = d.card.tail }) (nodes_stay (map net_name d.nets))
-
 cards_stay : (ds : List FlatDevice) → flat_cards (map at_top ds) ≡ flat_cards ds
 cards_stay [] = refl
-cards_stay (d ∷ ds) = ap (λ c. dev_at 0 c ∷ flat_cards (map at_top ds)) (card_stays d) ∙ ap (λ cs. dev_at 0 (flat_card d) ∷ cs) (cards_stay ds)
+cards_stay (d ∷ ds) = ap (λ c. dev_at 0 c ∷ flat_cards (map at_top ds)) (card_stays (flat_card d)) ∙ ap (λ cs. dev_at 0 (flat_card d) ∷ cs) (cards_stay ds)
 
 pub deck_stays : (f : Flat) → deck_of (all_at_top f) ≡ deck_of f
 deck_stays f = ap (λ cs. record { title = f.title; globals = f.rails; models = f.models; subs = subs_around f.top cs; top = top_without f.top cs; passed = f.passed }) (cards_stay f.devices)

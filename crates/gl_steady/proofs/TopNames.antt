@@ -7,6 +7,7 @@ use Rattle.std.proofs.lemmas.List.{map-append}
 use Rattle.gl_text.specs.LogicalLines.{NAME, Fault, name_clash, long_flat_name, same_text}
 use Rattle.gl_fault.specs.Refusals.{first_some, when}
 use Rattle.gl_text.specs.Flattening.{Net, FlatDevice, Bearer, device, net, net_name, top_net, device_name, bearers, bearer_name, clash, first_clash}
+use Rattle.gl_lists.proofs.Bools.{and_not_itself}
 use Rattle.gl_fault.proofs.FirstLaws.{none_first, when_none, first_none}
 use Rattle.gl_steady.proofs.AtTop.{at_top}
 
@@ -40,15 +41,11 @@ lengths_stay ds = ap (map long) (all_lifted ds) ∙ lengths_lifted (flat_map bea
 
 -- ---- clashes
 
-never : (b : Bool) → (b && not b) ≡ false
-never true = refl
-never false = refl
-
 clash_lifted : (b c : Bearer) → clash b c ≡ false → clash (lifted b) (lifted c) ≡ false
 clash_lifted (device m) (device n) h = h
 clash_lifted (device m) (net n) h = refl
 clash_lifted (net m) (device n) h = refl
-clash_lifted (net m) (net n) h = never (same_text (net_name m) (net_name n))
+clash_lifted (net m) (net n) h = and_not_itself (same_text (net_name m) (net_name n))
 
 any_lifted : (b : Bearer) (cs : List Bearer) → list_any (clash b) cs ≡ false → list_any (clash (lifted b)) (map lifted cs) ≡ false
 any_lifted b [] h = refl

@@ -21,5 +21,6 @@ pub fn flat_decks_flatten_again()
 pub fn flat_texts_flatten_to_themselves()
     ensures again { (top : Option (List ℕ)) (bytes text : List ℕ)
         → flat_job top bytes ≡ Ok text → flat_job top text ≡ Ok text }
-    ensures without_top { (bytes text : List ℕ) → flat_job None bytes ≡ Ok text → flat_job None text ≡ Ok text }
+    ensures without_top { (bytes text : List ℕ) → flat_job None bytes ≡ Ok text
+        → flat_job None text ≡ Ok text }
 {}

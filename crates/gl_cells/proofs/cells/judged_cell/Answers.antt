@@ -6,4 +6,4 @@ use Rattle.gl_cells.proofs.cells.judged_cell.Goals as goal
 
 pub returns-clause-cell : goal.returns-clause-cell
 returns-clause-cell c =
-    said (values c.args.subs.now) c.args.cell.now c.args.marks.now c.args.level (option_map skip_value c.in_ok-skip.skip) c.requires.marks c.requires.level c.in_ok-skip.ensures.skip
+    said c.args.subs.now c.args.cell.now c.args.marks.now c.args.level (option_map skip_value c.in_ok-skip.skip) c.requires.marks c.requires.level c.in_ok-skip.ensures.skip

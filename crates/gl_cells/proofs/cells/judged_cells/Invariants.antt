@@ -6,6 +6,6 @@ use Rattle.gl_cells.proofs.cells.judged_cells.Given as goal
 
 abbrev pub invariant-loop-place : goal.invariant-loop-place
 invariant-loop-place l = record {
-  said : l.judged.items ++ map (cell_of (values l.subs)) (drop l.place (values l.subs)) ≡ map (cell_of (values l.subs)) (values l.subs);
-  fits : limits_cause (values l.subs) (drop l.place (values l.subs)) ≡ limits_cause (values l.subs) (values l.subs);
+  said : l.judged.items ++ map (cell_of l.subs) (drop l.place l.subs) ≡ map (cell_of l.subs) l.subs;
+  fits : limits_cause l.subs (drop l.place l.subs) ≡ limits_cause l.subs l.subs;
 }

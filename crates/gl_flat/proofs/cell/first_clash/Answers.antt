@@ -11,21 +11,20 @@ use Rattle.gl_flat.proofs.PlainNames.{plain_differ}
 use Rattle.gl_flat.proofs.SoundLaws.{once_same, ports_once}
 use Rattle.gl_flat.proofs.cell.first_clash.Goals as goal
 
-pub clash_of_cell-requires : goal.clash_of_cell-requires
-clash_of_cell-requires c =
-    let subs = values c.args.subs.now in
+pub clash_of_cards-requires : goal.clash_of_cards-requires
+clash_of_cards-requires c =
+    let subs = c.args.subs.now in
     let there = c.scene-scene.ensures.subs in
     record {
       scene = record {
-        keyed = subst (λ m. keys m ≡ names_of (values m)) (sym there) c.requires.keyed;
-        ports = c.scene-scene.ensures.ports ∙ c.in_ok-tables.ensures.ports ∙ ports_once subs c.requires.ports ∙ ap (map (λ (s : Sub). s.head.ports)) (sym (ap values there));
+        ports = c.scene-scene.ensures.ports ∙ c.in_ok-tables.ensures.ports ∙ ports_once subs c.requires.ports ∙ ap (map (λ (s : Sub). s.head.ports)) (sym there);
       };
       names = c.requires.names;
     }
 
 pub returns : goal.returns
 returns c =
-    let subs = values c.args.subs.now in
+    let subs = c.args.subs.now in
     let rails = c.args.rails.now in
     let cell = c.args.cell.now in
     let scene = c.scene-scene.result in
@@ -33,11 +32,11 @@ returns c =
     let known : scene.rails.now.keys ≡ rails = rails_once ∙ once_same rails c.requires.rails in
     let ports : scene.own.now.keys ≡ once cell.head.ports = ap (λ t. t.keys) c.scene-scene.ensures.own ∙ c.in_ok-tables.ensures.own ∙ ap once (c.ports.ensures.ports ∙ ap (λ (h : Head). h.ports) c.head.ensures.head) in
     let devices : List (List ℕ) → List FlatDevice = λ (k : List (List ℕ)). flat_devices k subs DEPTH top_place cell.cards in
-    let given = flat_devices scene.rails.now.keys (values scene.subs.now) DEPTH top_place cell.cards in
+    let given = flat_devices scene.rails.now.keys scene.subs.now DEPTH top_place cell.cards in
     let same : first_clash (map (λ n. net (top_net n)) (codes "0" ∷ scene.rails.now.keys ++ scene.own.now.keys)) (flat_map bearers given) ≡ clash_in rails cell.head.ports (devices rails) =
-    clash_same scene.rails.now.keys scene.own.now.keys rails cell.head.ports (flat_map bearers given) (plain_differ scene.rails.now.keys (values scene.subs.now) DEPTH cell.cards c.requires.names) rails_once ports
-    ∙ ap (λ m. clash_in rails cell.head.ports (flat_devices scene.rails.now.keys (values m) DEPTH top_place cell.cards)) c.scene-scene.ensures.subs
+    clash_same scene.rails.now.keys scene.own.now.keys rails cell.head.ports (flat_map bearers given) (plain_differ scene.rails.now.keys scene.subs.now DEPTH cell.cards c.requires.names) rails_once ports
+    ∙ ap (λ m. clash_in rails cell.head.ports (flat_devices scene.rails.now.keys m DEPTH top_place cell.cards)) c.scene-scene.ensures.subs
     ∙ ap (λ (k : List (List ℕ)). clash_in rails cell.head.ports (devices k)) known in
     record {
-      clash = subst (λ w. IfOk c.clash_of_cell.result (λ name. option_map name_clash name ≡ w)) same c.clash_of_cell.ensures.clash;
+      clash = subst (λ w. IfOk c.clash_of_cards.result (λ name. option_map name_clash name ≡ w)) same c.clash_of_cards.ensures.clash;
     }

@@ -15,4 +15,4 @@ abbrev pub decreases-expand_call : goal.decreases-expand_call
 decreases-expand_call l = 3 * l.depth
 
 abbrev pub invariant-expand-loop-card : goal.invariant-expand-loop-card
-invariant-expand-loop-card l = l.out.items ≡ l.fn.out.items ++ flat_devices l.scene.rails.now.keys (values l.scene.subs.now) l.depth (place_of l.scene.rails.now.keys l.way) (bodies_value (take l.card-index l.cards))
+invariant-expand-loop-card l = l.out.items ≡ l.fn.out.items ++ flat_devices l.scene.rails.now.keys l.scene.subs.now l.depth (place_of l.scene.rails.now.keys l.way) (bodies_value (take l.card-index l.cards))

@@ -14,9 +14,6 @@ returns-in_err-chosen-clause-refused c =
     refused_on c.from_residual.result f c.args.deck.now (option_copied c.args.top) c.from_residual.ensures.1
     (λ rails. choice_refuses (fault_of f) c.args.deck.now rails (option_copied c.args.top) c.in_err-chosen.ensures.refused)
 
-pub refuse_excess-requires : goal.refuse_excess-requires
-refuse_excess-requires c = record { keyed = c.subs.ensures.keyed }
-
 pub returns-in_err-refuse_excess-clause-refused : goal.returns-in_err-refuse_excess-clause-refused
 returns-in_err-refuse_excess-clause-refused c =
     let f = c.in_err-refuse_excess.field-0.0 in

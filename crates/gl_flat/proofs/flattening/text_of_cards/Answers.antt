@@ -9,4 +9,4 @@ use Rattle.gl_flat.proofs.flattening.text_of_cards.Goals as goal
 pub judged_text-requires-clause-plain : goal.judged_text-requires-clause-plain
 judged_text-requires-clause-plain c =
     let s = c.args.scene.now in
-    subst PlainDiffer (sym (c.deref.ensures.value ∙ c.in_ok-devices.ensures.devices)) (plain_differ s.rails.now.keys (values s.subs.now) DEPTH (bodies_value c.args.chosen.cards.now) c.requires.names)
+    subst PlainDiffer (sym (c.deref.ensures.value ∙ c.in_ok-devices.ensures.devices)) (plain_differ s.rails.now.keys s.subs.now DEPTH (bodies_value c.args.cards.now) c.requires.names)

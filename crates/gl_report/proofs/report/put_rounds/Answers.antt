@@ -23,7 +23,7 @@ returns-clause-ok c =
     let round : RoundPart = record { devices = names.devices; cells = cell_parts (cells_at 0 library) finds } in
     let before = c.put-2.new.out.items in
     let text = before ++ parts_text names (cell_parts (cells_at 0 library) finds) in
-    let subs : c.as_slice.result.now ≡ library.deck.subs = c.as_slice.ensures ∙ c.values.ensures.rest ∙ c.subs.ensures.subs ∙ ap (λ (d : Deck). d.subs) c.deck.ensures.deck in
+    let subs : c.as_slice.result.now ≡ library.deck.subs = c.as_slice.ensures.subs ∙ c.subs.ensures.subs ∙ ap (λ (d : Deck). d.subs) c.deck.ensures.deck in
     let cells : c.cells-cells.result.now ≡ library.cells = c.cells-cells.ensures.cells in
     let same : before ++ parts_text names (cell_parts (filter (λ (x : Sub × Cell). x.1.level == 0) (zip c.as_slice.result.now c.cells-cells.result.now)) finds) ≡ text =
     ap (λ ss. before ++ parts_text names (cell_parts (filter (λ (x : Sub × Cell). x.1.level == 0) (zip ss c.cells-cells.result.now)) finds)) subs
