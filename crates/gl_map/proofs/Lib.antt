@@ -1,0 +1,8 @@
+pub mod WordLaws
+pub mod LineLaws
+pub mod CheckLaws
+pub mod DoubleLaws
+pub mod NamedLaws
+pub mod FewLaws
+pub mod PrintLaws
+pub mod LoopLaws
