@@ -1,2 +1,2 @@
 mod Pairs
-mod KeysBelow
+pub mod KeysBelow

@@ -9,4 +9,4 @@ pub use gl_cover::Pick;
 pub use gl_graph::{Circuit, Pattern};
 pub use gl_legal::CellList;
 pub use gl_match::Memory;
-pub use round::{Round, round_of};
+pub use round::{Round, round_among, round_of};

@@ -1,4 +1,4 @@
-ghost use Rattle.std.specs.Prelude.{◌≡◌, All, length, IfOk};
+ghost use Rattle.std.specs.Prelude.{◌≡◌, All, length, map, IfOk};
 ghost use Rattle.std.specs.List.{AllZip};
 ghost use Rattle.gl_match.specs.Graph.{FitsInto};
 ghost use Rattle.gl_match.specs.Listing.{Listed};
@@ -8,14 +8,23 @@ use gl_legal::{CellList, plain};
 use gl_match::Memory;
 use std::alloc::Global;
 
-/// The complete list of each pattern, against the same circuit.
-pub fn lists_of(
+/// Patterns of one list, each by itself.
+pub fn apart<'a>(alloc: Global, patterns: &'a [Pattern]) -> Result<Vec<&'a Pattern>, Memory>
+    ensures same { IfOk result (λ ps. map (λ p. p.now) ps.items ≡ patterns.now) }
+{
+    let each = patterns.iter().collect(alloc)?;
+    Ok(each)
+}
+
+/// The complete list of each of some patterns that stand apart, against the same circuit.
+pub fn lists_among(
     alloc: Global,
     circuit: &Circuit,
-    patterns: &[Pattern],
+    patterns: &[&Pattern],
 ) -> Result<Vec<CellList>, Memory>
-    requires fit { All (FitsInto circuit.now) patterns.now }
-    ensures complete { IfOk result (λ lists. AllZip (Listed circuit.now) patterns.now lists.items) }
+    requires fit { All (FitsInto circuit.now) (map (λ p. p.now) patterns.now) }
+    ensures complete { IfOk result (λ lists. AllZip (Listed circuit.now)
+        (map (λ p. p.now) patterns.now) lists.items) }
 {
     let mut lists = Vec::with_capacity(alloc, patterns.len())?;
     for pattern in patterns {

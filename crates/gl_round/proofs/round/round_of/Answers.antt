@@ -1,12 +1,7 @@
-use Rattle.std.proofs.Common.{◌<◌, ℕ, List, length, sym, subst}
+use Rattle.std.proofs.Common.{map, sym, ap, ◌∙◌, subst}
 use Rattle.std.specs.Prelude.{All}
-use Rattle.gl_match.specs.Listing.{Instance}
-use Rattle.gl_round.proofs.KeysBelow.{lists_below}
+use Rattle.gl_match.specs.Graph.{FitsInto}
 use Rattle.gl_round.proofs.round.round_of.Goals as goal
 
-pub choose-requires-clause-below : goal.choose-requires-clause-below
-choose-requires-clause-below c =
-    let circuit = c.args.circuit.now in
-    let below = lists_below circuit c.args.patterns.now c.in_ok-lists.lists.items c.in_ok-lists.ensures.complete in
-    let same = subst (λ (ls : List (List Instance)). All (λ list. All (λ (i : Instance). All (λ dev. dev < length circuit.devices) i.key.set) list) ls) (sym c.deref-2.ensures.value) below in
-    subst (λ (n : ℕ). All (λ list. All (λ (i : Instance). All (λ dev. dev < n) i.key.set) list) c.deref-2.result.now) (sym c.devices.ensures.count) same
+pub round_among-requires : goal.round_among-requires
+round_among-requires c = record { fit = subst (All (FitsInto c.args.circuit.now)) (sym (ap (map (λ p. p.now)) c.deref.ensures.value ∙ c.in_ok-patterns.ensures.same)) c.requires.fit }

@@ -1,0 +1,11 @@
+mod ListLaws
+mod MarkLaws
+mod SlotLaws
+mod ChosenLaws
+mod CellLaws
+mod FindLaws
+mod HistoryLaws
+mod ReachedLaws
+mod LeftLaws
+mod BindingLaws
+mod SoundLaws
