@@ -21,7 +21,7 @@ slot_at (suc (suc (suc (suc (suc zero))))) = Report
 slot_at (suc (suc (suc (suc (suc (suc zero)))))) = Out
 slot_at (suc (suc (suc (suc (suc (suc (suc n))))))) = Says
 
-slot_at-place_of : (slot : Slot) → slot_at (place_of slot) ≡ slot
+pub slot_at-place_of : (slot : Slot) → slot_at (place_of slot) ≡ slot
 slot_at-place_of Deck = refl
 slot_at-place_of Library = refl
 slot_at-place_of Map = refl

@@ -1,5 +1,5 @@
 -- What follows of how a job ends, for every job: by the parts of what it does.
-use Rattle.std.proofs.Common.{◌≡◌, ◌≢◌, ◌⊎◌, ◌<◌, ◌≤◌, ◌++◌, ℕ, List, [], ◌∷◌, Option, Some, None, Bool, true, false, map, length, refl, ap, sym, ◌∙◌, subst, inl, inr, arith}
+use Rattle.std.proofs.Common.{◌≡◌, ◌≢◌, ◌⊎◌, ◌≤◌, ◌++◌, ℕ, List, [], ◌∷◌, Option, Some, true, false, map, length, ap, sym, ◌∙◌, subst, inl, inr, arith}
 use Rattle.std.specs.Prelude.{IfSome}
 use Rattle.std.specs.List.{AllByRecursion}
 use Rattle.gl_desk.specs.declared.slot.Slot.{Slot}
@@ -12,7 +12,7 @@ use Rattle.gl_job.specs.declared.stop.Stop.TheVariants as stops
 use Rattle.gl_job.specs.Texts.{End, ended, no_memory, kind_status, status_of, end_of_stop}
 use Rattle.gl_job.specs.Runs.{Run, Opening, HasCause, Unread, IsApart, IsUntouched, AreRest}
 use Rattle.gl_job.specs.Courses.{Course, refuse, read, may_stop, write, Writes, Ends}
-use Rattle.gl_job.specs.Claims.{AreWritten, IsDone, IsSound, IsStatus, IsComplete, IsLeft, IsProper}
+use Rattle.gl_job.specs.Claims.{AreWritten, IsDone, IsStatus, IsComplete, IsLeft, IsProper}
 
 -- ---- statuses
 

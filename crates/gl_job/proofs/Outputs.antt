@@ -1,15 +1,15 @@
 -- Outputs that are written one after another.
-use Rattle.std.proofs.Common.{◌≡◌, ◌≢◌, ◌≤◌, ◌-◌, ℕ, List, [], ◌∷◌, Option, map, take, drop, length, refl, ap, sym, ◌∙◌, subst, inl, inr, arith}
-use Rattle.std.specs.Prelude.{slice_index_or, IfSome, IsSomeAnd}
+use Rattle.std.proofs.Common.{◌≡◌, ◌≢◌, ◌≤◌, ◌-◌, List, [], ◌∷◌, map, take, drop, length, ap, sym, ◌∙◌, subst, inl, inr, arith}
+use Rattle.std.specs.Prelude.{slice_index_or}
 use Rattle.std.specs.List.{AllByRecursion}
 use Rattle.std.proofs.lemmas.List.{take_rest}
 use Rattle.gl_desk.specs.declared.slot.Slot.{Slot}
-use Rattle.gl_desk.specs.Desk.{View, HasRisen}
+use Rattle.gl_desk.specs.Desk.{View}
 use Rattle.gl_job.specs.declared.stop.Stop.{Stop}
 use Rattle.gl_job.specs.declared.stop.Stop.TheVariants as stops
 use Rattle.gl_job.specs.declared.writing.Output.{Output}
 use Rattle.gl_job.specs.Texts.{End, end_of_stop}
-use Rattle.gl_job.specs.Runs.{Run, Opening, HasCause, IsApart, IsCutShort, IsWritten, IsUntouched}
+use Rattle.gl_job.specs.Runs.{Run, IsApart, IsCutShort, IsWritten, IsUntouched}
 use Rattle.gl_job.specs.Courses.{Writes}
 use Rattle.gl_job.proofs.Same.{LooksSame, written_same, writes_same}
 use Rattle.gl_job.specs.Outputs.{opening_of, text_of, slots_of, IsWritable, AreApart}

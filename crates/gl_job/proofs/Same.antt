@@ -1,5 +1,5 @@
 -- What one run saw, another saw that looks the same at the slots in question.
-use Rattle.std.proofs.Common.{◌≡◌, ◌≢◌, ◌++◌, ℕ, List, [], ◌∷◌, Option, true, false, map, take, length, refl, ap, sym, ◌∙◌, subst, inl, inr}
+use Rattle.std.proofs.Common.{◌≡◌, ◌≢◌, ◌++◌, ℕ, List, [], ◌∷◌, Option, true, false, map, take, length, ap, sym, ◌∙◌, subst, inl, inr}
 use Rattle.std.specs.Prelude.{IfSome, IsSomeAnd, ◌≤◌}
 use Rattle.std.specs.List.{AllByRecursion}
 use Rattle.gl_desk.specs.declared.slot.Slot.{Slot}
@@ -37,7 +37,7 @@ written_same o text s r same w = record {
   given = subst (λ (v : View). IfSome v.given (λ given. given ≡ text)) same w.given;
 }
 
-whole_same : (o : Opening) (bytes : List ℕ) (s r : Run) → LooksSame s r o.slot → s.held o.slot o.word ≡ r.held o.slot o.word → IsWhole s o bytes → IsWhole r o bytes
+pub whole_same : (o : Opening) (bytes : List ℕ) (s r : Run) → LooksSame s r o.slot → s.held o.slot o.word ≡ r.held o.slot o.word → IsWhole s o bytes → IsWhole r o bytes
 whole_same o bytes s r same held w = record {
   used = ap (λ (v : View). v.used) (sym same.after) ∙ w.used;
   same_bytes = subst (λ (h : Option (List ℕ)). IfSome h (λ held. bytes ≡ held)) held w.same_bytes;
@@ -49,7 +49,7 @@ whole_same o bytes s r same held w = record {
 not_long_same : (slot : Slot) (s r : Run) → LooksSame s r slot → IsNotLong s slot → IsNotLong r slot
 not_long_same slot s r same h = λ used taken. h (ap (λ (v : View). v.used) same.after ∙ used) (ap (λ (v : View). v.taken) same.after ∙ taken)
 
-unread_same : (stop : Stop) (o : Opening) (s r : Run) → LooksSame s r o.slot → s.held o.slot o.word ≡ r.held o.slot o.word → Unread stop s o → Unread stop r o
+pub unread_same : (stop : Stop) (o : Opening) (s r : Run) → LooksSame s r o.slot → s.held o.slot o.word ≡ r.held o.slot o.word → Unread stop s o → Unread stop r o
 unread_same (stops.Read slot) o s r same held u = (u.0, cause_same o s r same u.1, not_long_same o.slot s r same u.2)
 unread_same (stops.LongFile slot) o s r same held u = (
   u.0,
@@ -109,7 +109,7 @@ ends_same opened (write outs Are) end s r alike proper (inr w) =
 -- ---- a job whose outputs are written
 
 -- an input is none of the outputs
-no_input : (slot : Slot) (outs : List Opening) → IsInput slot → AllByRecursion (λ o. IsOutput o.slot × (o.slot ≢ Says)) outs → IsApart slot (map (λ o. o.slot) outs)
+pub no_input : (slot : Slot) (outs : List Opening) → IsInput slot → AllByRecursion (λ o. IsOutput o.slot × (o.slot ≢ Says)) outs → IsApart slot (map (λ o. o.slot) outs)
 no_input slot [] input proper = tt
 no_input slot (o ∷ outs) input proper = (λ e. let both : true ≡ false = sym input ∙ ap is_input e ∙ proper.0.0 in absurd (cc both), no_input slot outs input proper.1)
 

@@ -25,6 +25,10 @@ abbrev pub unless : {V E : Type 0} → Kind → (E → List ℕ) → Result V E 
 unless kind text (Ok value) next = next value
 unless kind text (Err fault) next = refuse kind (text fault)
 
+-- an input is read; a refusal of its bytes is told, else what follows of the value comes
+abbrev pub input : {V E : Type 0} → Opening → Kind → (E → List ℕ) → (List ℕ → Result V E) → (V → Course) → Course
+input o kind text wanted next = read o (λ bytes. unless kind text (wanted bytes) next)
+
 -- the outputs are written one after another: where one cannot be written whole, those before it are whole, and those behind
 -- it were not opened
 abbrev pub Writes : List Opening → List (List ℕ) → List ℕ → End → Run → Type 0

@@ -3,3 +3,4 @@ pub mod Runs
 pub mod Courses
 pub mod Claims
 pub mod Outputs
+pub mod Points

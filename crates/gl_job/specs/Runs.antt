@@ -1,5 +1,5 @@
 -- What a run saw of the slots: what was read of an input, or why nothing; what became of an output.
-use Rattle.std.specs.Prelude.{◌≡◌, ◌≢◌, ◌⊎◌, ℕ, ◌<◌, ◌≤◌, List, [], ◌∷◌, Bool, true, false, Option, length, take, IfSome, IsSomeAnd}
+use Rattle.std.specs.Prelude.{◌≡◌, ◌≢◌, ◌⊎◌, ℕ, ◌≤◌, List, [], true, Option, length, take, IfSome, IsSomeAnd}
 use Rattle.std.specs.List.{AllByRecursion}
 use Rattle.gl_desk.specs.declared.slot.Slot.{Slot}
 use Rattle.gl_desk.specs.declared.slot.Slot.TheVariants.{Says}

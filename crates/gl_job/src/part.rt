@@ -13,7 +13,7 @@ pub enum Part<'a> {
 }
 
 /// The parts of a message: one text.
-pub fn one_text(text: &'static str) -> [Part<'static>; 6]
+pub fn one_text<'a>(text: &'static str) -> [Part<'a>; 6]
     ensures text { parts_text result ≡ text.now ++ [] }
 {
     let none = Part::Text("");
@@ -21,7 +21,7 @@ pub fn one_text(text: &'static str) -> [Part<'static>; 6]
 }
 
 /// A number behind a text.
-pub fn text_and_number(text: &'static str, number: u32) -> [Part<'static>; 6]
+pub fn text_and_number<'a>(text: &'static str, number: u32) -> [Part<'a>; 6]
     ensures text { parts_text result ≡ text.now ++ (decimal number ++ []) }
 {
     let none = Part::Text("");

@@ -45,7 +45,7 @@ fn name_of(slot: Slot) -> &'static str
 }
 
 /// That the file at an input is too long.
-fn long_file(slot: Slot) -> [Part<'static>; 6]
+fn long_file<'a>(slot: Slot) -> [Part<'a>; 6]
     ensures text { parts_text result ≡ stop_text (Why.LongFile slot) }
 {
     let none = Part::Text("");
@@ -76,7 +76,7 @@ impl Stop {
     }
 
     /// What is said of it.
-    pub fn parts(self) -> [Part<'static>; 6]
+    pub fn parts<'a>(self) -> [Part<'a>; 6]
         ensures text { parts_text result ≡ stop_text self }
     {
         match self {

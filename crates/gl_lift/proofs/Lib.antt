@@ -4,3 +4,4 @@ pub mod CellsWhole
 pub mod ReadFiles
 pub mod Plain
 pub mod Named
+pub mod Kept

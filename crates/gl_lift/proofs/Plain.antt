@@ -12,7 +12,8 @@ use Rattle.gl_base.specs.Libraries.{Library}
 use Rattle.gl_base.specs.Stems.{IsStem}
 use Rattle.gl_base.specs.Rounds.{cards_of, source_of, cells_at, searched, cell_pattern, IsRound}
 use Rattle.gl_base.specs.RoundReports.{cell_parts, rounds_of, left_of, report_text}
-use Rattle.gl_base.specs.Lifting.{IsReport}
+use Rattle.gl_base.specs.Keeping.{keeping, unknown_keep}
+use Rattle.gl_lift.specs.Lifting.{IsLiftReport}
 use Rattle.gl_flat.specs.PlainFlats.{plain_device, plain}
 use Rattle.gl_flat.proofs.PlainLaws.{plain_cards}
 use Rattle.gl_lib.specs.Sources.{cells_in, AreSound}
@@ -40,16 +41,20 @@ text_with : List ℕ → Library → List (List Instance) → List (List Pick) �
 text_with stem library lists picks devices nets count =
     report_text (record { stem = stem; nets = nets }) (rounds_of library.cells (record { devices = devices; cells = cell_parts (cells_at 0 library) (zip lists picks) })) (left_of count lists picks)
 
-pub plain_report : (f : Flat) (library : Library) (text : List ℕ) → IsReport (plain f) library text → IsReport f library text
+-- the first kept name that is unknown
+pub same_unknown : (keep : List (List ℕ)) (f : Flat) (library : Library) → unknown_keep keep (source_of (plain f) library) ≡ unknown_keep keep (source_of f library)
+same_unknown keep f library = ap (unknown_keep keep) (same_source f library)
+
+pub plain_report : (keep : List (List ℕ)) (f : Flat) (library : Library) (text : List ℕ) → IsLiftReport keep library (plain f) text → IsLiftReport keep library f text
 unfolding names_with text_with
-plain_report f library text h =
+plain_report keep f library text h =
     let names = same_names f.devices in
     let count : length (plain f).devices ≡ length f.devices = length-map (map flat_card f.devices) plain_device ∙ length-map f.devices flat_card in
     record {
       lists = h.lists;
       picks = h.picks;
       stem = h.stem;
-      round = subst (λ (s : Source). IsRound (circuit_of s) 1 (map (cell_pattern s) (searched (cells_at 0 library))) h.lists h.picks) (same_source f library) h.round;
+      round = subst (λ (s : Source). IsRound (circuit_of (keeping keep s)) 1 (map (cell_pattern (keeping keep s)) (searched (cells_at 0 library))) h.lists h.picks) (same_source f library) h.round;
       stem_is = subst (λ (cards : List Device). IsStem (names_with f cards) h.stem) (plain_cards f) h.stem_is;
       text_is = h.text_is
           ∙ ap (λ (ds : List (List ℕ)). text_with h.stem library h.lists h.picks ds (nets_of (cards_of (plain f))) (length (plain f).devices)) names

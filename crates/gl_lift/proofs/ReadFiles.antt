@@ -8,7 +8,7 @@ use Rattle.gl_text.specs.Decks.{Body, dev_at, call_at, Sub, Deck, read_deck}
 use Rattle.gl_text.specs.CellCards.{devices_in}
 use Rattle.gl_base.specs.Libraries.{Cause, Cell, Library, read_library}
 use Rattle.gl_base.specs.Rounds.{searched}
-use Rattle.gl_base.specs.Lifting.{first_call, not_yet, without_calls, taken_library}
+use Rattle.gl_lift.specs.Lifting.{first_call, not_yet, without_calls, taken_library}
 use Rattle.gl_known.specs.Known.{IsKnownDeck, body_size, sub_size}
 use Rattle.gl_known.proofs.Totals.{total, total_is}
 use Rattle.gl_known.proofs.DecksRead.{file_read}

@@ -1,3 +1,5 @@
+pub mod Lifting
 pub mod FlatParts
 pub mod Liftable
 pub mod Reported
+pub mod Refusals

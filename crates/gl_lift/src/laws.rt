@@ -6,7 +6,9 @@ ghost use Rattle.gl_text.specs.Flattening.{Flat, flatten};
 ghost use Rattle.gl_known.specs.Known.{IsKnownDeck};
 ghost use Rattle.gl_base.specs.Rails.{run_rails};
 ghost use Rattle.gl_base.specs.Libraries.{Library};
-ghost use Rattle.gl_base.specs.Lifting.{IsReport, taken_library};
+ghost use Rattle.gl_base.specs.Keeping.{unknown_keep};
+ghost use Rattle.gl_base.specs.Rounds.{source_of};
+ghost use Rattle.gl_lift.specs.Lifting.{IsLiftReport, taken_library};
 ghost use Rattle.gl_flat.specs.PlainFlats.{plain};
 ghost use Rattle.gl_cells.specs.KnownLibraries.{IsKnownLibrary};
 ghost use Rattle.gl_lib.specs.Sources.{AreSound};
@@ -35,7 +37,11 @@ pub fn flat_decks_are_sound()
         → AreSound (plain flat) library }
 {}
 
-/// The report of a flat deck with its devices at the top is that of the flat deck.
+/// The report of a flat deck with its devices at the top is that of the flat deck, whatever names are kept, and so is the
+/// first of these that is unknown.
 pub fn plain_reports_are_reports()
-    ensures report { (flat : Flat) (library : Library) (text : List ℕ) → IsReport (plain flat) library text → IsReport flat library text }
+    ensures report { (keep : List (List ℕ)) (flat : Flat) (library : Library) (text : List ℕ)
+        → IsLiftReport keep library (plain flat) text → IsLiftReport keep library flat text }
+    ensures unknown { (keep : List (List ℕ)) (flat : Flat) (library : Library)
+        → unknown_keep keep (source_of (plain flat) library) ≡ unknown_keep keep (source_of flat library) }
 {}

@@ -1,5 +1,6 @@
-pub mod Fronts
-pub mod Told
-pub mod LiftComplete
-pub mod Complete
-pub mod ReadDecks
+pub mod Bytes
+pub mod Reading
+pub mod Courses
+pub mod Finishing
+pub mod Answering
+pub mod Wordless

@@ -1,56 +1,52 @@
--- What each ending of the job `lift` means: of what the inputs held, and of what the output was given.
-use Rattle.std.specs.Prelude.{◌≡◌, ℕ, ◌≤◌, length, List, [], take, true, Err, IfSome}
-use Rattle.gl_desk.specs.declared.slot.Slot.TheVariants.{Deck, Library, Report}
-use Rattle.gl_text.specs.Decks.{read_deck}
-use Rattle.gl_base.specs.Lifting.{taken_library}
+-- What an ending of the code means.
+use Rattle.std.specs.Prelude.{ℕ, List, [], Bool, true, false}
+use Rattle.gl_deck.specs.Refusals as decks
+use Rattle.gl_cells.specs.Causes.{cause_of}
+use Rattle.gl_flat.specs.Refusals as flats
+use Rattle.gl_lift.specs.Refusals as lifts
+use Rattle.gl_job.specs.declared.kind.Kind.{Kind}
+use Rattle.gl_job.specs.declared.kind.Kind.TheVariants as kinds
+use Rattle.gl_job.specs.Texts.{End, done, ended, end_of_stop, stop_kind, stop_text}
+use Rattle.gl_job.specs.Points.{told, told_kind, told_text}
+use Rattle.gl_said.specs.Texts.{fault_text, cell_text, not_yet_text}
 use Rattle.gl_run.specs.declared.ending.Ending.{Ending}
 use Rattle.gl_run.specs.declared.ending.Ending.TheVariants as endings
-use Rattle.gl_run.specs.Reading.{Seen, HasCause, IsLong}
-use Rattle.gl_run.specs.Refusals.{read_fault, flat_fault, library_cause}
-use Rattle.gl_run.specs.Lift.{IsReportOfBytes, IsDeck, IsLibrary, HasFlatDeck, HasFlatFault}
+use Rattle.gl_run.specs.Jobs.{lift_text}
 
--- both inputs were read to their ends, and the text is the report of what they held
-pub record IsMade (deck library : Seen) (text : List ℕ) : Type 0 where
-  pub deck_read : IfSome deck.after.left (λ rest. rest ≡ [])
-  pub library_read : IfSome library.after.left (λ rest. rest ≡ [])
-  pub deck_accepted : IfSome deck.held IsDeck
-  pub library_accepted : IfSome library.held IsLibrary
-  pub flattened : IfSome deck.held (λ d. IfSome library.held (λ l. HasFlatDeck d l))
-  pub made : IfSome deck.held (λ d. IfSome library.held (λ l. IsReportOfBytes d l text))
+-- the end of a run: a fault is told as what it means, or is want of memory
+abbrev pub end_of : Ending → End
+end_of endings.Done = done []
+end_of endings.Words = ended kinds.Words []
+end_of (endings.Deck fault) = told kinds.Deck fault_text (decks.fault_of fault)
+end_of (endings.Library fault) = told kinds.Library cell_text (cause_of fault)
+end_of (endings.NotYet line) = ended kinds.Library (not_yet_text line)
+end_of (endings.Flat fault) = told kinds.Deck fault_text (flats.fault_of fault)
+end_of (endings.Lift fault) = told kinds.Deck lift_text (lifts.cause_of fault)
+end_of (endings.Stopped stop) = end_of_stop stop
 
--- both inputs were read to their ends, and the output was given the report of what they held
-pub record IsDone (deck library report : Seen) : Type 0 where
-  pub deck_read : IfSome deck.after.left (λ rest. rest ≡ [])
-  pub library_read : IfSome library.after.left (λ rest. rest ≡ [])
-  pub deck_accepted : IfSome deck.held IsDeck
-  pub library_accepted : IfSome library.held IsLibrary
-  pub flattened : IfSome deck.held (λ d. IfSome library.held (λ l. HasFlatDeck d l))
-  pub given : IfSome deck.held (λ d. IfSome library.held (λ l. IfSome report.after.given (λ text. IsReportOfBytes d l text)))
+-- of which kind an ending is, unless all is written
+abbrev pub kind_of : Ending → Kind
+kind_of endings.Done = kinds.Memory
+kind_of endings.Words = kinds.Words
+kind_of (endings.Deck fault) = told_kind kinds.Deck (decks.fault_of fault)
+kind_of (endings.Library fault) = told_kind kinds.Library (cause_of fault)
+kind_of (endings.NotYet line) = kinds.Library
+kind_of (endings.Flat fault) = told_kind kinds.Deck (flats.fault_of fault)
+kind_of (endings.Lift fault) = told_kind kinds.Deck (lifts.cause_of fault)
+kind_of (endings.Stopped stop) = stop_kind stop
 
--- the output could not be opened, or not be given the whole report
-pub record IsUnwritten (deck library report : Seen) : Type 0 where
-  pub cause : HasCause report
-  pub deck_accepted : IfSome deck.held IsDeck
-  pub library_accepted : IfSome library.held IsLibrary
-  pub flattened : IfSome deck.held (λ d. IfSome library.held (λ l. HasFlatDeck d l))
-  pub front : IfSome deck.held (λ d. IfSome library.held (λ l. IfSome report.after.given (λ given.
-      (text : List ℕ) × (n : ℕ) × IsReportOfBytes d l text × (given ≡ take n text))))
+-- its text
+abbrev pub text_of : Ending → List ℕ
+text_of endings.Done = []
+text_of endings.Words = []
+text_of (endings.Deck fault) = told_text fault_text (decks.fault_of fault)
+text_of (endings.Library fault) = told_text cell_text (cause_of fault)
+text_of (endings.NotYet line) = not_yet_text line
+text_of (endings.Flat fault) = told_text fault_text (flats.fault_of fault)
+text_of (endings.Lift fault) = told_text lift_text (lifts.cause_of fault)
+text_of (endings.Stopped stop) = stop_text stop
 
--- why there is no report; each later ending carries that the earlier points were passed
-abbrev pub Unmade : Ending → Seen → Seen → Type 0
-Unmade (endings.Read Deck) deck library = HasCause deck
-Unmade (endings.LongFile Deck) deck library = IsLong deck
-Unmade (endings.DeckRefused refusal) deck library = IfSome deck.held (λ d. (length d ≤ 67108864) × (read_deck true d ≡ Err (read_fault refusal)))
-Unmade (endings.Read Library) deck library = HasCause library × IfSome deck.held IsDeck
-Unmade (endings.LongFile Library) deck library = IsLong library × IfSome deck.held IsDeck
-Unmade (endings.LibraryRefused refusal) deck library = IfSome deck.held IsDeck × IfSome library.held (λ l. (length l ≤ 67108864) × (taken_library l ≡ Err (library_cause refusal)))
-Unmade (endings.FlatRefused refusal) deck library = IfSome deck.held IsDeck × IfSome library.held IsLibrary × IfSome deck.held (λ d. IfSome library.held (λ l. HasFlatFault d l (flat_fault refusal)))
-Unmade endings.Memory deck library = Unit {0}
-Unmade _ deck library = ⊥
-
--- what an ending of the job `lift` means
-abbrev pub Lifts : Ending → Seen → Seen → Seen → Type 0
-Lifts endings.Done deck library report = IsDone deck library report
-Lifts (endings.Write Report) deck library report = IsUnwritten deck library report
-Lifts (endings.Write _) deck library report = ⊥
-Lifts ending deck library report = Unmade ending deck library
+-- whether all is written
+abbrev pub is_done : Ending → Bool
+is_done endings.Done = true
+is_done _ = false

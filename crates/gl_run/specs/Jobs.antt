@@ -1,33 +1,62 @@
--- What holds of each job: what its endings mean, when it is done, which status comes where, and which slots it leaves alone.
-use Rattle.std.specs.Prelude.{◌≡◌, ◌≢◌, ℕ, List, Option, None, Some}
-use Rattle.gl_desk.specs.declared.slot.Slot.{Slot}
+-- The jobs, as data: what each reads, what refuses it, and what it writes.
+use Rattle.std.specs.Prelude.{◌≡◌, ℕ, List, [], ◌∷◌, Option, None, Some, true}
+use Rattle.gl_text.specs.Decks.{read_deck}
+use Rattle.gl_text.specs.Flattening.{flat_job}
+use Rattle.gl_lift.specs.Lifting.{LibraryCause, refused, not_yet, taken_library, LiftCause, of_flat, of_keep, lifted_flat, IsLiftReport}
 use Rattle.gl_desk.specs.declared.slot.Slot.TheVariants.{Deck, Library, Report, Out}
-use Rattle.gl_run.specs.declared.ending.Ending.{Ending}
-use Rattle.gl_run.specs.declared.ending.Ending.TheVariants as endings
-use Rattle.gl_run.specs.Words.{Job, lift, flat}
-use Rattle.gl_run.specs.Reading.{Seen}
-use Rattle.gl_run.specs.Endings.{Lifts, IsDone}
-use Rattle.gl_run.specs.Completeness.{IsComplete}
-use Rattle.gl_run.specs.FlatEndings.{Flattens, IsFlatDone, IsFlatComplete}
+use Rattle.gl_job.specs.declared.kind.Kind.TheVariants as kinds
+use Rattle.gl_job.specs.Runs.{Opening, opening}
+use Rattle.gl_job.specs.Courses.{Course, refuse, unless, input, write}
+use Rattle.gl_words.specs.Jobs.{Job, lift, flat, Request, FlatRequest, job_named}
+use Rattle.gl_said.specs.Texts.{fault_text, cell_text, keep_text, not_yet_text}
 
--- what an ending means of the words and of the slots; with words that name no job there is one ending
-abbrev pub Means : Ending → Option Job → (Slot → List ℕ → Seen) → Type 0
-Means ending None see = ending ≡ endings.Words
-Means ending (Some (lift r)) see = Lifts ending (see Deck r.deck) (see Library r.library) (see Report r.report)
-Means ending (Some (flat r)) see = Flattens ending (see Deck r.deck) (see Out r.out)
+-- ---- texts
 
--- the inputs of the job were read to their ends, and its output was given what is to be written
-abbrev pub IsJobDone : Job → (Slot → List ℕ → Seen) → Type 0
-IsJobDone (lift r) see = IsDone (see Deck r.deck) (see Library r.library) (see Report r.report)
-IsJobDone (flat r) see = IsFlatDone (see Deck r.deck) (see Out r.out)
+-- why a library is not taken
+abbrev pub library_text : LibraryCause → List ℕ
+library_text (refused cause) = cell_text cause
+library_text (not_yet line) = not_yet_text line
 
--- which status comes where the inputs of the job are told and no call on them fails
-abbrev pub IsJobComplete : ℕ → Job → (Slot → List ℕ → Seen) → Type 0
-IsJobComplete status (lift r) see = IsComplete status (see Deck r.deck) (see Library r.library) (see Report r.report)
-IsJobComplete status (flat r) see = IsFlatComplete status (see Deck r.deck) (see Out r.out)
+-- why nothing is written of a deck and a library that were read
+abbrev pub lift_text : LiftCause → List ℕ
+lift_text (of_flat fault) = fault_text fault
+lift_text (of_keep name) = keep_text name
 
--- the job does not use the slot; what is said aside
-abbrev pub IsUnused : Option Job → Slot → Type 0
-IsUnused None slot = Unit {0}
-IsUnused (Some (lift r)) slot = (slot ≢ Deck) × (slot ≢ Library) × (slot ≢ Report)
-IsUnused (Some (flat r)) slot = (slot ≢ Deck) × (slot ≢ Out)
+-- one text is written, and nothing is said
+abbrev pub IsAlone : (List ℕ → Type 0) → List (List ℕ) → List ℕ → Type 0
+IsAlone Is (text ∷ []) [] = Is text
+IsAlone Is _ _ = ⊥
+
+-- ---- flat
+
+abbrev pub flat_outs : FlatRequest → List Opening
+flat_outs r = opening Out r.out ∷ []
+
+-- the deck is read and flattened, and the flat text is written
+unfoldable pub flat_course : FlatRequest → Course
+flat_course r = input (opening Deck r.deck) kinds.Deck fault_text (flat_job r.top) (λ text. write (flat_outs r) (IsAlone (λ given. given ≡ text)))
+
+-- ---- lift
+
+abbrev pub lift_outs : Request → List Opening
+lift_outs r = opening Report r.report ∷ []
+
+-- the deck is read, and the library; the deck is flattened, its kept names are looked up, and the report is written
+unfoldable pub lift_course : Request → Course
+lift_course r =
+    input (opening Deck r.deck) kinds.Deck fault_text (read_deck true) (λ deck.
+    input (opening Library r.library) kinds.Library library_text taken_library (λ library.
+    unless kinds.Deck lift_text (lifted_flat r.top r.keep deck library) (λ flat.
+    write (lift_outs r) (IsAlone (IsLiftReport r.keep library flat)))))
+
+-- ---- all
+
+-- what a run does; without a job it is refused
+abbrev pub course_of : Option Job → Course
+course_of None = refuse kinds.Words []
+course_of (Some (lift r)) = lift_course r
+course_of (Some (flat r)) = flat_course r
+
+-- what a run of these words does
+abbrev pub course_named : List (List ℕ) → Course
+course_named words = course_of (job_named words)

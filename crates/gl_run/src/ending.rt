@@ -1,13 +1,24 @@
-ghost use Rattle.std.specs.Prelude.{◌≡◌};
-ghost use Rattle.gl_run.specs.Messages.{status_of};
-ghost use Rattle.gl_run.specs.declared.ending.Ending.{Ending as End};
+//! How a run ends.
+ghost use Rattle.std.specs.Prelude.{◌≡◌, true};
+ghost use Rattle.gl_desk.specs.Desk.{OthersSame, NamesSame};
+ghost use Rattle.gl_job.specs.Points.{told_kind, told_text};
+ghost use Rattle.gl_job.specs.Texts.{parts_text, status_of, line_of, Speaks};
+ghost use Rattle.gl_lift.specs.Refusals.{cause_of};
+ghost use Rattle.gl_run.specs.Jobs.{lift_text};
+ghost use Rattle.gl_run.specs.Endings.{end_of, kind_of, text_of, is_done as is_done_of};
 
-use crate::flat_refusal::FlatRefusal;
-use crate::library_refusal::LibraryRefusal;
-use crate::read_refusal::Refusal;
-use gl_desk::Slot;
+use gl_cells::LibFault;
+use gl_deck::DeckFault;
+use gl_desk::{Desk, Slot};
+use gl_flat::FlatFault;
+use gl_job::{Kind, Stop, one_text, say};
+use gl_lift::LiftFault;
+use gl_said::{
+    Parts, deck_kind, deck_parts, flat_kind, flat_parts, keep_kind, keep_parts, library_kind,
+    library_parts, not_yet_parts,
+};
 
-/// How a run ends.
+/// How a run ends. A fault is that of the layer that answered.
 #[derive(Debug, Drop)]
 pub enum Ending {
     /// All is written.
@@ -15,45 +26,113 @@ pub enum Ending {
     /// The words name no job.
     Words,
     /// The deck is refused as it is read.
-    DeckRefused(Refusal),
-    /// The deck is refused as it is flattened.
-    FlatRefused(FlatRefusal),
+    Deck(DeckFault),
     /// The library is refused.
-    LibraryRefused(LibraryRefusal),
-    /// The file at an input is longer than a file may be.
-    LongFile {
-        /// The input.
-        slot: Slot,
+    Library(LibFault),
+    /// The library has an X card, which is not taken yet.
+    NotYet {
+        /// The line of the first such card, from 1.
+        line: u32,
     },
-    /// A call on an input failed.
-    Read {
-        /// The input.
-        slot: Slot,
-    },
-    /// A call on an output failed.
-    Write {
-        /// The output.
-        slot: Slot,
-    },
-    /// There was no memory.
-    Memory,
+    /// The deck is refused as it is flattened.
+    Flat(FlatFault),
+    /// The deck is refused as it is flattened, or a kept name is unknown.
+    Lift(LiftFault),
+    /// A slot, or want of memory, stops the run.
+    Stopped(Stop),
+}
+
+/// Of which kind a refusal of `lift` is.
+fn lift_kind(fault: &LiftFault) -> Kind
+    ensures kind { result ≡ told_kind Kind.Deck (cause_of fault.now) }
+{
+    match fault {
+        LiftFault::Flat(fault) => flat_kind(Kind::Deck, fault),
+        LiftFault::Keep(fault) => keep_kind(Kind::Deck, fault),
+    }
+}
+
+/// What is said of it.
+fn lift_parts<'a>(fault: &'a LiftFault) -> Parts<'a>
+    ensures text { parts_text result ≡ told_text lift_text (cause_of fault.now) }
+{
+    match fault {
+        LiftFault::Flat(fault) => flat_parts(fault),
+        LiftFault::Keep(fault) => keep_parts(fault),
+    }
 }
 
 impl Ending {
-    /// The status that the program ends with.
-    pub fn status(&self) -> u8
-        ensures status { result ≡ status_of self.now }
+    /// Whether all is written.
+    fn is_done(&self) -> bool
+        ensures done { result ≡ is_done_of self.now }
     {
         match self {
-            Ending::Done => 0,
-            Ending::Words => 1,
-            Ending::DeckRefused(_) => 2,
-            Ending::FlatRefused(_) => 2,
-            Ending::LibraryRefused(_) => 3,
-            Ending::LongFile { .. } => 6,
-            Ending::Read { .. } => 7,
-            Ending::Write { .. } => 8,
-            Ending::Memory => 9,
+            Ending::Done => true,
+            Ending::Words => false,
+            Ending::Deck(_) => false,
+            Ending::Library(_) => false,
+            Ending::NotYet { .. } => false,
+            Ending::Flat(_) => false,
+            Ending::Lift(_) => false,
+            Ending::Stopped(_) => false,
         }
     }
+
+    /// Of which kind it is, unless all is written.
+    fn kind(&self) -> Kind
+        ensures kind { result ≡ kind_of self.now }
+    {
+        match self {
+            Ending::Done => Kind::Memory,
+            Ending::Words => Kind::Words,
+            Ending::Deck(fault) => deck_kind(Kind::Deck, fault),
+            Ending::Library(fault) => library_kind(Kind::Library, fault),
+            Ending::NotYet { .. } => Kind::Library,
+            Ending::Flat(fault) => flat_kind(Kind::Deck, fault),
+            Ending::Lift(fault) => lift_kind(fault),
+            Ending::Stopped(stop) => stop.kind(),
+        }
+    }
+
+    /// What is said of it.
+    fn parts<'a>(&'a self) -> Parts<'a>
+        ensures text { parts_text result ≡ text_of self.now }
+    {
+        match self {
+            Ending::Done => one_text(""),
+            Ending::Words => one_text(""),
+            Ending::Deck(fault) => deck_parts(fault),
+            Ending::Library(fault) => library_parts(fault),
+            Ending::NotYet { line } => not_yet_parts(*line),
+            Ending::Flat(fault) => flat_parts(fault),
+            Ending::Lift(fault) => lift_parts(fault),
+            Ending::Stopped(stop) => stop.parts(),
+        }
+    }
+
+    /// The status that the program ends with.
+    pub fn status(&self) -> u8
+        ensures status { result ≡ status_of (end_of self.now) }
+    {
+        if self.is_done() {
+            0
+        } else {
+            self.kind().status()
+        }
+    }
+}
+
+/// Says the line of an ending, or its front up to a call that fails; nothing where all is written. It takes no memory.
+pub fn say_ending<D: Desk>(desk: &mut D, ending: &Ending)
+    requires says { (D.shows desk.old Slot.Says).used ≡ true }
+    ensures line { Speaks (line_of (end_of ending.now))
+        (D.shows desk.old Slot.Says) (D.shows desk.new Slot.Says) }
+    ensures others { OthersSame D.shows desk.old desk.new Slot.Says }
+    ensures names { NamesSame D.held D.wants desk.old desk.new }
+{
+    if ending.is_done() {
+        return;
+    }
+    say(desk, ending.kind(), &ending.parts());
 }

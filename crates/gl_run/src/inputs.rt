@@ -1,87 +1,84 @@
-//! The inputs of a job, read whole.
-ghost use Rattle.std.specs.Prelude.{◌≡◌, ◌≤◌, ◌⊎◌, length, false, true, Ok, IfOk, IfErr, IsErrOf};
-ghost use Rattle.gl_desk.specs.Desk.{OthersSame, NamesSame};
-ghost use Rattle.gl_base.specs.Lifting.{taken_library};
-ghost use Rattle.gl_deck.specs.Refusals.{fault_of};
-ghost use Rattle.gl_cells.specs.Causes.{cause_of};
-ghost use Rattle.gl_run.specs.Reading.{seen};
-ghost use Rattle.gl_run.specs.FlatInputs.{Tells};
-ghost use Rattle.gl_run.specs.Inputs.{HasRead, HasReadLibrary, NoDeck, NoLibrary, TellsLibrary, TellsUntaken};
-ghost use Rattle.gl_run.specs.declared.ending.Ending.{Ending as End};
+//! What is made of the bytes of inputs.
+ghost use Rattle.std.specs.Prelude.{◌≡◌, ◌≤◌, length, true, Ok, IfOk, IfErr};
+ghost use Rattle.std.specs.Option.{option_copied};
+ghost use Rattle.gl_text.specs.Decks.{read_deck};
+ghost use Rattle.gl_text.specs.Flattening.{flat_job};
+ghost use Rattle.gl_text.specs.LogicalLines.{FILE};
+ghost use Rattle.gl_lift.specs.Lifting.{taken_library};
+ghost use Rattle.gl_printed.specs.ReadDecks.{IsReadDeck};
+ghost use Rattle.gl_flat.specs.Refusals.{GivesOf, IsTextOf};
+ghost use Rattle.gl_text.specs.Flattening as flattening;
+ghost use Rattle.gl_job.specs.Points.{Refuses};
+ghost use Rattle.gl_lift.specs.Liftable.{IsLiftable, IsSearchable};
+ghost use Rattle.gl_said.specs.Texts.{fault_text};
+ghost use Rattle.gl_run.specs.Jobs.{library_text};
+ghost use Rattle.gl_run.specs.Endings.{end_of};
 
 use crate::ending::Ending;
-use crate::library_refusal::{LibraryRefusal, library_refusal_of};
-use crate::read_refusal::refusal_of;
-use crate::reading::read;
-use gl_cells::LibFault;
-use gl_deck::{Deck, DeckFault};
-use gl_desk::{Desk, Slot};
+use gl_deck::Deck;
+use gl_flat::{FlatFault, flattened_text};
+use gl_job::Kind;
 use gl_lift::{Library, taken_files_are_lifted};
+use gl_words::Name;
 use std::alloc::Global;
 
-/// How a run ends whose deck is refused as it is read.
-fn unread(fault: DeckFault) -> Ending
-    ensures tells { Tells result (fault_of fault) }
+/// The deck of bytes, or how the run ends.
+pub fn deck_of(alloc: Global, bytes: &[u8]) -> Result<Deck, Ending>
+    requires few { length bytes.now ≤ FILE }
+    ensures deck { IfOk result (λ deck. read_deck true bytes.now ≡ Ok deck) }
+    ensures known { IfOk result IsLiftable }
+    ensures refused { IfErr result (λ ending.
+        Refuses Kind.Deck fault_text (read_deck true bytes.now) (end_of ending)) }
 {
-    match refusal_of(fault) {
-        Some(refusal) => Ending::DeckRefused(refusal),
-        None => Ending::Memory,
-    }
-}
-
-/// How a run ends whose library is refused.
-fn unread_library(fault: LibFault) -> Ending
-    ensures tells { TellsLibrary result (cause_of fault) }
-{
-    match library_refusal_of(fault) {
-        Some(refusal) => Ending::LibraryRefused(refusal),
-        None => Ending::Memory,
-    }
-}
-
-/// Reads the deck by its word.
-pub fn read_deck<D: Desk>(alloc: Global, desk: &mut D, word: &str) -> Result<Deck, Ending>
-    requires free { (D.shows desk.old Slot.Deck).used ≡ false }
-    ensures deck { IfOk result (λ deck. HasRead (seen D.shows D.held D.wants desk.old desk.new Slot.Deck word.now) deck) }
-    ensures none { IfErr result (λ ending. NoDeck ending (seen D.shows D.held D.wants desk.old desk.new Slot.Deck word.now)) }
-    ensures long { (D.shows desk.new Slot.Deck).used ≡ true → (D.shows desk.new Slot.Deck).taken ≡ 67108865 → IsErrOf result (End.LongFile Slot.Deck) ⊎ IsErrOf result End.Memory }
-    ensures others { OthersSame D.shows desk.old desk.new Slot.Deck }
-    ensures names { NamesSame D.held D.wants desk.old desk.new }
-{
-    let bytes = read(alloc, desk, Slot::Deck, word)?;
     taken_files_are_lifted();
-    match Deck::read(alloc, &bytes, true) {
+    match Deck::read(alloc, bytes, true) {
         Ok(deck) => Ok(deck),
-        Err(fault) => Err(unread(fault)),
+        Err(fault) => Err(Ending::Deck(fault)),
     }
 }
 
-/// The library of bytes, if it has no X card.
-fn taken(alloc: Global, bytes: &[u8]) -> Result<Library, Ending>
-    requires few { length bytes.now ≤ 67108864 }
+/// The library of bytes, if it has no X card, or how the run ends.
+pub fn library_of(alloc: Global, bytes: &[u8]) -> Result<Library, Ending>
+    requires few { length bytes.now ≤ FILE }
     ensures library { IfOk result (λ library. taken_library bytes.now ≡ Ok library) }
-    ensures none { IfErr result (λ ending. TellsUntaken ending (taken_library bytes.now)) }
+    ensures known { IfOk result IsSearchable }
+    ensures refused { IfErr result (λ ending.
+        Refuses Kind.Library library_text (taken_library bytes.now) (end_of ending)) }
 {
+    taken_files_are_lifted();
     let library = match Library::read(alloc, bytes) {
         Ok(library) => library,
-        Err(fault) => return Err(unread_library(fault)),
+        Err(fault) => return Err(Ending::Library(fault)),
     };
     match library.first_call() {
-        Some(line) => Err(Ending::LibraryRefused(LibraryRefusal::NotYet { line })),
+        Some(line) => Err(Ending::NotYet { line }),
         None => Ok(library),
     }
 }
 
-/// Reads the library by its word.
-pub fn read_library<D: Desk>(alloc: Global, desk: &mut D, word: &str) -> Result<Library, Ending>
-    requires free { (D.shows desk.old Slot.Library).used ≡ false }
-    ensures library { IfOk result (λ library. HasReadLibrary (seen D.shows D.held D.wants desk.old desk.new Slot.Library word.now) library) }
-    ensures none { IfErr result (λ ending. NoLibrary ending (seen D.shows D.held D.wants desk.old desk.new Slot.Library word.now)) }
-    ensures long { (D.shows desk.new Slot.Library).used ≡ true → (D.shows desk.new Slot.Library).taken ≡ 67108865 → IsErrOf result (End.LongFile Slot.Library) ⊎ IsErrOf result End.Memory }
-    ensures others { OthersSame D.shows desk.old desk.new Slot.Library }
-    ensures names { NamesSame D.held D.wants desk.old desk.new }
+/// The flat text of a deck, with its own globals as rails, and with a top or none.
+fn text_of(alloc: Global, deck: &Deck, top: Option<&Name>) -> Result<Vec<u8>, FlatFault>
+    requires known { IsReadDeck deck.now }
+    ensures gives { GivesOf (λ text. IsTextOf text.items) result
+        (flattening.flatten deck.now deck.now.globals (option_copied top.entry)) }
 {
-    let bytes = read(alloc, desk, Slot::Library, word)?;
-    taken_files_are_lifted();
-    taken(alloc, &bytes)
+    flattened_text(alloc, deck, deck.globals(), top)
+}
+
+/// The flat text of bytes, with a top or none, or how the run ends.
+pub fn flat_text_of(alloc: Global, bytes: &[u8], top: Option<&Name>) -> Result<Vec<u8>, Ending>
+    requires few { length bytes.now ≤ FILE }
+    ensures text { IfOk result (λ text.
+        flat_job (option_copied top.entry) bytes.now ≡ Ok text.items) }
+    ensures refused { IfErr result (λ ending.
+        Refuses Kind.Deck fault_text (flat_job (option_copied top.entry) bytes.now) (end_of ending)) }
+{
+    let deck = match deck_of(alloc, bytes) {
+        Ok(deck) => deck,
+        Err(ending) => return Err(ending),
+    };
+    match text_of(alloc, &deck, top) {
+        Ok(text) => Ok(text),
+        Err(fault) => Err(Ending::Flat(fault)),
+    }
 }

@@ -1,40 +1,105 @@
 //! The job `lift`.
-ghost use Rattle.std.specs.Prelude.{◌≡◌, ◌≢◌, ◌⊎◌, false, true};
+ghost use Rattle.std.specs.Prelude.{◌≡◌, ◌≢◌, [], ◌∷◌, true, false, IfOk, IfErr};
 ghost use Rattle.gl_desk.specs.declared.slot.Slot.{Slot as Place};
-ghost use Rattle.gl_desk.specs.Desk.{NamesSame};
-ghost use Rattle.gl_run.specs.Messages.{status_of};
-ghost use Rattle.gl_run.specs.Reading.{seen};
-ghost use Rattle.gl_run.specs.Endings.{Lifts};
-ghost use Rattle.gl_run.specs.declared.ending.Ending.{Ending as End};
+ghost use Rattle.gl_desk.specs.Desk.{OthersSame, NamesSame};
+ghost use Rattle.gl_text.specs.Decks.{read_deck};
+ghost use Rattle.gl_lift.specs.Lifting.{taken_library};
+ghost use Rattle.gl_job.specs.Runs.{run_of, opening};
+ghost use Rattle.gl_job.specs.Courses.{Ends, Makes};
+ghost use Rattle.gl_job.specs.Points.{IsRead, IsNotRead};
+ghost use Rattle.gl_lift.specs.Liftable.{IsLiftable, IsSearchable};
+ghost use Rattle.gl_said.specs.Texts.{fault_text};
+ghost use Rattle.gl_words.specs.Names.{lift_names};
+ghost use Rattle.gl_run.specs.Jobs.{lift_course, lift_outs, library_text};
+ghost use Rattle.gl_run.specs.Endings.{end_of};
 
 use crate::ending::Ending;
-use crate::making::make;
-use crate::words::Lift;
-use crate::writing::write;
+use crate::inputs::{deck_of, library_of};
+use crate::writing::finish;
+use gl_deck::Deck;
 use gl_desk::{Desk, Slot};
+use gl_job::{Kind, Output, read};
+use gl_lift::{Library, report_of};
+use gl_words::Lift;
 use std::alloc::Global;
 
-/// Does the job `lift`: all that is written is made before the output is opened.
-pub fn do_lift<D: Desk>(alloc: Global, desk: &mut D, names: &Lift<'_>) -> Ending
-    requires free { (slot : Place) → slot ≢ Slot.Says → (D.shows desk.old slot).used ≡ false }
-    ensures means { Lifts result
-        (seen D.shows D.held D.wants desk.old desk.new Slot.Deck names.now.deck.now)
-        (seen D.shows D.held D.wants desk.old desk.new Slot.Library names.now.library.now)
-        (seen D.shows D.held D.wants desk.old desk.new Slot.Report names.now.report.now) }
-    ensures long_deck { (D.shows desk.new Slot.Deck).used ≡ true → (D.shows desk.new Slot.Deck).taken ≡ 67108865
-        → (result ≡ End.LongFile Slot.Deck) ⊎ (result ≡ End.Memory) }
-    ensures long_library { (D.shows desk.new Slot.Library).used ≡ true → (D.shows desk.new Slot.Library).taken ≡ 67108865
-        → (result ≡ End.LongFile Slot.Library) ⊎ (result ≡ End.Memory) }
-    ensures closed { (status_of result ≡ 0) ⊎ (status_of result ≡ 8) ⊎ ((D.shows desk.new Slot.Report).used ≡ false) }
-    ensures others { (slot : Place) → slot ≢ Slot.Deck → slot ≢ Slot.Library → slot ≢ Slot.Report → D.shows desk.new slot ≡ D.shows desk.old slot }
+/// Reads the deck by its word.
+fn read_deck_file<D: Desk>(alloc: Global, desk: &mut D, word: &str) -> Result<Deck, Ending>
+    requires free { (D.shows desk.old Slot.Deck).used ≡ false }
+    ensures deck { IfOk result (λ deck. IsRead (read_deck true) (opening Slot.Deck word.now) deck
+        (run_of D.shows D.held D.wants desk.old desk.new)) }
+    ensures known { IfOk result IsLiftable }
+    ensures none { IfErr result (λ ending. IsNotRead Kind.Deck fault_text (read_deck true)
+        (opening Slot.Deck word.now) (end_of ending) (run_of D.shows D.held D.wants desk.old desk.new)) }
+    ensures others { OthersSame D.shows desk.old desk.new Slot.Deck }
     ensures names { NamesSame D.held D.wants desk.old desk.new }
 {
-    let text = match make(alloc, desk, names) {
+    match read(alloc, desk, Slot::Deck, word) {
+        Ok(bytes) => deck_of(alloc, &bytes),
+        Err(stop) => Err(Ending::Stopped(stop)),
+    }
+}
+
+/// Reads the library by its word.
+fn read_library_file<D: Desk>(alloc: Global, desk: &mut D, word: &str) -> Result<Library, Ending>
+    requires free { (D.shows desk.old Slot.Library).used ≡ false }
+    ensures library { IfOk result (λ library. IsRead taken_library
+        (opening Slot.Library word.now) library (run_of D.shows D.held D.wants desk.old desk.new)) }
+    ensures known { IfOk result IsSearchable }
+    ensures none { IfErr result (λ ending. IsNotRead Kind.Library library_text taken_library
+        (opening Slot.Library word.now) (end_of ending) (run_of D.shows D.held D.wants desk.old desk.new)) }
+    ensures others { OthersSame D.shows desk.old desk.new Slot.Library }
+    ensures names { NamesSame D.held D.wants desk.old desk.new }
+{
+    match read(alloc, desk, Slot::Library, word) {
+        Ok(bytes) => library_of(alloc, &bytes),
+        Err(stop) => Err(Ending::Stopped(stop)),
+    }
+}
+
+/// Reads both inputs, flattens the deck, and makes the report.
+fn make_lift<D: Desk>(alloc: Global, desk: &mut D, words: &Lift<'_>) -> Result<Vec<u8>, Ending>
+    requires deck { (D.shows desk.old Slot.Deck).used ≡ false }
+    requires library { (D.shows desk.old Slot.Library).used ≡ false }
+    ensures made { IfOk result (λ text. Makes [] (lift_course (lift_names words.now))
+        (lift_outs (lift_names words.now)) (text.items ∷ []) (run_of D.shows D.held D.wants desk.old desk.new)) }
+    ensures unmade { IfErr result (λ ending. Ends [] (lift_course (lift_names words.now))
+        (end_of ending) (run_of D.shows D.held D.wants desk.old desk.new)) }
+    ensures others { (slot : Place) → slot ≢ Slot.Deck → slot ≢ Slot.Library
+        → D.shows desk.new slot ≡ D.shows desk.old slot }
+    ensures names { NamesSame D.held D.wants desk.old desk.new }
+{
+    let deck = match read_deck_file(alloc, desk, words.deck) {
+        Ok(deck) => deck,
+        Err(ending) => return Err(ending),
+    };
+    let library = match read_library_file(alloc, desk, words.library) {
+        Ok(library) => library,
+        Err(ending) => return Err(ending),
+    };
+    match report_of(alloc, &deck, &library, words.top.as_ref(), &words.keep) {
+        Ok(text) => Ok(text),
+        Err(fault) => Err(Ending::Lift(fault)),
+    }
+}
+
+/// Does the job `lift`: all that is written is made before the output is opened.
+pub fn do_lift<D: Desk>(alloc: Global, desk: &mut D, words: &Lift<'_>) -> Ending
+    requires free { (slot : Place) → slot ≢ Slot.Says
+        → (D.shows desk.old slot).used ≡ false }
+    ensures ends { Ends [] (lift_course (lift_names words.now)) (end_of result)
+        (run_of D.shows D.held D.wants desk.old desk.new) }
+    ensures says { D.shows desk.new Slot.Says ≡ D.shows desk.old Slot.Says }
+    ensures names { NamesSame D.held D.wants desk.old desk.new }
+{
+    let text = match make_lift(alloc, desk, words) {
         Ok(text) => text,
         Err(ending) => return ending,
     };
-    match write(desk, Slot::Report, names.report, &text) {
-        Ok(()) => Ending::Done,
-        Err(_) => Ending::Write { slot: Slot::Report },
-    }
+    let outputs = [Output {
+        slot: Slot::Report,
+        word: words.report,
+        text: &text,
+    }];
+    finish(desk, &outputs)
 }

@@ -1,21 +1,29 @@
-ghost use Rattle.std.specs.Prelude.{◌≡◌, ◌≢◌, false, OnOk, OnErr};
+//! The outputs of a job, when all are made.
+ghost use Rattle.std.specs.Prelude.{◌≡◌, [], map};
+ghost use Rattle.std.specs.List.{AllByRecursion};
 ghost use Rattle.gl_desk.specs.declared.slot.Slot.{Slot as Place};
-ghost use Rattle.gl_desk.specs.Desk.{IsOutput, OthersSame, NamesSame};
-ghost use Rattle.gl_run.specs.Reading.{seen};
-ghost use Rattle.gl_run.specs.Writing.{IsWritten, IsCutShort};
+ghost use Rattle.gl_desk.specs.Desk.{NamesSame};
+ghost use Rattle.gl_job.specs.Runs.{run_of, IsApart};
+ghost use Rattle.gl_job.specs.Courses.{Writes};
+ghost use Rattle.gl_job.specs.Outputs.{opening_of, text_of, slots_of, IsWritable, AreApart};
+ghost use Rattle.gl_run.specs.Endings.{end_of};
 
-use gl_desk::{Desk, Failed, Slot, write_all};
+use crate::ending::Ending;
+use gl_desk::Desk;
+use gl_job::{Output, write_outputs};
 
-/// Opens an output by its word and writes it whole.
-pub fn write<D: Desk>(desk: &mut D, slot: Slot, word: &str, text: &[u8]) -> Result<(), Failed>
-    requires output { IsOutput slot }
-    requires not_says { slot ≢ Place.Says }
-    requires free { (D.shows desk.old slot).used ≡ false }
-    ensures written { OnOk result (IsWritten (seen D.shows D.held D.wants desk.old desk.new slot word.now) text.now) }
-    ensures cut { OnErr result (IsCutShort (seen D.shows D.held D.wants desk.old desk.new slot word.now) text.now) }
-    ensures others { OthersSame D.shows desk.old desk.new slot }
+/// Writes outputs one after another, each opened when those before it are whole.
+pub fn finish<D: Desk>(desk: &mut D, outputs: &[Output<'_>]) -> Ending
+    requires writable { AllByRecursion (IsWritable (D.shows desk.old)) outputs.now }
+    requires apart { AreApart outputs.now }
+    ensures writes { Writes (map opening_of outputs.now) (map text_of outputs.now) []
+        (end_of result) (run_of D.shows D.held D.wants desk.old desk.new) }
+    ensures others { (slot : Place) → IsApart slot (slots_of outputs.now)
+        → D.shows desk.new slot ≡ D.shows desk.old slot }
     ensures names { NamesSame D.held D.wants desk.old desk.new }
 {
-    desk.open(slot, word)?;
-    write_all(desk, slot, text)
+    match write_outputs(desk, outputs) {
+        Ok(()) => Ending::Done,
+        Err(stop) => Ending::Stopped(stop),
+    }
 }

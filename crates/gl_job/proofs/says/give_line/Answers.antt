@@ -1,4 +1,4 @@
-use Rattle.std.proofs.Common.{rules, ◌≡◌, ◌++◌, ℕ, List, subst}
+use Rattle.std.proofs.Common.{rules, ◌++◌, ℕ, List, subst}
 use Rattle.std.specs.Prelude.{codes, OnErr}
 use Rattle.gl_desk.specs.Desk.{Gives, GivesFront}
 use Rattle.gl_desk.specs.declared.slot.Slot.TheVariants.{Says}

@@ -1,7 +1,5 @@
-use Rattle.std.proofs.Common.{rules, refl, arith}
+use Rattle.std.proofs.Common.{rules, refl}
 use Rattle.gl_job.specs.Runs.{run_of}
-use Rattle.gl_job.proofs.Laws.{done_of, complete_of, unused_of, closed_of}
-use Rattle.gl_job.proofs.Same.{ends_same, ends_of_made}
 use Rattle.gl_job.proofs.Outputs.{writable_behind, cut_first, written_first}
 use Rattle.gl_job.proofs.writing.+write_outputs.Goals as goal
 

@@ -6,10 +6,10 @@ use Rattle.gl_match.specs.declared.role.Pick.{Pick}
 use Rattle.gl_match.specs.Graph.{Circuit, Pattern, FitsInto}
 use Rattle.gl_match.specs.Listing.{Instance}
 use Rattle.gl_base.specs.BaseCircuit.{Source, circuit_of}
-use Rattle.gl_base.specs.Rounds.{source_of, cells_at, searched, cell_pattern, IsRound}
+use Rattle.gl_base.specs.Rounds.{IsRound}
 use Rattle.gl_base.specs.RoundReports.{left_of}
 use Rattle.gl_report.specs.Naming.{first_report}
-use Rattle.gl_lift.specs.Reported.{round_names}
+use Rattle.gl_lift.specs.Reported.{round_names, round_source, round_patterns}
 use Rattle.gl_lift.proofs.Named.{device_count}
 use Rattle.gl_lift.proofs.report.report_of_flat.Goals as goal
 
@@ -32,8 +32,9 @@ pub returns : goal.returns
 returns c =
     let flat = c.args.flat.now in
     let library = c.args.library.now in
-    let source : Source = source_of flat library in
-    let patterns : List Pattern = map (cell_pattern source) (searched (cells_at 0 library)) in
+    let keep = c.args.keep.now in
+    let source : Source = round_source keep flat library in
+    let patterns : List Pattern = round_patterns keep flat library in
     let lists = c.in_ok-round.round.lists.items in
     let items : List (Vec Pick Global) → List (List Pick) = map (λ (v : Vec Pick Global). v.items) in
     let picks : List (List Pick) = items c.in_ok-round.round.picks.items in
@@ -42,7 +43,7 @@ returns c =
     let patterns-are : c.patterns.result.now ≡ patterns = c.patterns.ensures.patterns ∙ c.in_ok-base.ensures.patterns in
     let by-circuit : IsRound (circuit_of source) 1 c.patterns.result.now lists picks = subst (λ (k : Circuit). IsRound k 1 c.patterns.result.now lists picks) circuit-is c.in_ok-round.ensures.round in
     let round : IsRound (circuit_of source) 1 patterns lists picks = subst (λ (ps : List Pattern). IsRound (circuit_of source) 1 ps lists picks) patterns-are by-circuit in
-    let count : c.devices.result ≡ length flat.devices = c.devices.ensures.count ∙ (ap (λ (k : Circuit). length k.devices) (c.circuit-2.ensures.circuit ∙ c.in_ok-base.ensures.circuit) ∙ device_count flat library) in
+    let count : c.devices.result ≡ length flat.devices = c.devices.ensures.count ∙ (ap (λ (k : Circuit). length k.devices) (c.circuit-2.ensures.circuit ∙ c.in_ok-base.ensures.circuit) ∙ device_count keep flat library) in
     let left : c.in_ok-left.left ≡ left_of (length flat.devices) lists picks = c.in_ok-left.ensures.left
     ∙ (ap (λ (n : ℕ). left_of n c.deref.result.now (items c.deref-2.result.now)) count
     ∙ (ap (λ (ls : List (List Instance)). left_of (length flat.devices) ls (items c.deref-2.result.now)) c.deref.ensures.value
@@ -53,4 +54,4 @@ returns c =
     ∙ (ap (λ (ls : List (List Instance)). first_report (round_names flat stem) library ls (items c.deref-6.result.now) c.in_ok-left.left) c.deref-5.ensures.value
     ∙ (ap (λ (ps : List (Vec Pick Global)). first_report (round_names flat stem) library lists (items ps) c.in_ok-left.left) c.deref-6.ensures.value
     ∙ ap (λ (n : ℕ). first_report (round_names flat stem) library lists picks n) left)))) in
-    record { report = record { lists = lists; picks = picks; stem = stem; round = round; stem_is = c.in_ok-stem.ensures.stem; text_is = text } }
+    record { known = c.in_ok-base.ensures.known; refused = tt; report = record { lists = lists; picks = picks; stem = stem; round = round; stem_is = c.in_ok-stem.ensures.stem; text_is = text } }

@@ -1,0 +1,37 @@
+-- What it means that a base was made, or that a name is unknown, of the flat deck that is lifted.
+use Rattle.std.proofs.Common.{◌≡◌, ℕ, List, Option, None, Some, refl, sym, ap, ◌∙◌, subst}
+use Rattle.std.specs.Prelude.{Result, Ok, Err}
+use Rattle.std.specs.Option.{option_map}
+use Rattle.gl_fault.specs.Refusals.{IsRefusal, or_else}
+use Rattle.gl_text.specs.LogicalLines.{Fault}
+use Rattle.gl_text.specs.Flattening.{Flat}
+use Rattle.gl_base.specs.Libraries.{Library}
+use Rattle.gl_base.specs.Rounds.{source_of}
+use Rattle.gl_base.specs.Keeping.{unknown_keep, base_keeping}
+use Rattle.gl_lift.specs.Lifting.{LiftCause, of_flat, of_keep, unless_unknown}
+
+-- a value that is given is the wanted one, and nothing refuses it
+pub given_else : {F A : Type 0} (found : Option F) (x y : A) → or_else found x ≡ Ok y → (found ≡ None) × (y ≡ x)
+given_else None x y h = let same : x ≡ y = cc in (refl, sym same)
+given_else (Some f) x y h = absurd cc
+
+-- a refusal that is given is the one that there is
+refused_else : {F A : Type 0} (found : Option F) (x : A) (f : F) → or_else found x ≡ Err f → found ≡ Some f
+refused_else None x f h = absurd cc
+refused_else (Some g) x f h = let same : g ≡ f = cc in ap Some same
+
+-- no flat deck
+pub flat_refused : (keep : List (List ℕ)) (library : Library) (given : Option Fault) (wanted : Result Flat Fault) → IsRefusal given wanted → IsRefusal (option_map of_flat given) (unless_unknown keep library wanted)
+flat_refused keep library None wanted h = tt
+flat_refused keep library (Some fault) wanted h = ap (unless_unknown keep library) h
+
+-- a flat deck, and all names are known
+pub flat_known : (keep : List (List ℕ)) (library : Library) (flat : Flat) (wanted : Result Flat Fault) → wanted ≡ Ok flat → unknown_keep keep (source_of flat library) ≡ None → unless_unknown keep library wanted ≡ Ok flat
+flat_known keep library flat wanted is known = ap (unless_unknown keep library) is ∙ ap (λ (u : Option (List ℕ)). or_else (option_map of_keep u) flat) known
+
+-- a flat deck, and a name is unknown
+pub keep_refused : (keep : List (List ℕ)) (library : Library) (flat : Flat) (wanted : Result Flat Fault) (given : Option (List ℕ)) → wanted ≡ Ok flat → IsRefusal given (base_keeping keep (source_of flat library) library) → IsRefusal (option_map of_keep given) (unless_unknown keep library wanted)
+keep_refused keep library flat wanted None is h = tt
+keep_refused keep library flat wanted (Some name) is h =
+    let found : unknown_keep keep (source_of flat library) ≡ Some name = refused_else (unknown_keep keep (source_of flat library)) _ name h in
+    ap (unless_unknown keep library) is ∙ ap (λ (u : Option (List ℕ)). or_else (option_map of_keep u) flat) found

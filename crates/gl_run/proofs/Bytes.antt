@@ -1,0 +1,67 @@
+-- What refuses the bytes of a deck or a library, by what their layers answer.
+use Rattle.std.proofs.Common.{◌≡◌, ℕ, List, Option, None, Some, true, refl, ap, sym, ◌∙◌, inl, inr}
+use Rattle.std.specs.Prelude.{Result, Ok, Err}
+use Rattle.std.specs.Option.{option_map}
+use Rattle.gl_fault.specs.Refusals.{IsRefusal, or_else, ◌>>=◌}
+use Rattle.gl_text.specs.LogicalLines.{Fault}
+use Rattle.gl_text.specs.Decks.{Deck, read_deck}
+use Rattle.gl_text.specs.Flattening.{Flat, flatten, flat_text, flat_job}
+use Rattle.gl_base.specs.Libraries.{Cause, Library, read_library}
+use Rattle.gl_lift.specs.Lifting.{LibraryCause, refused, not_yet, first_call, without_calls, taken_library}
+use Rattle.gl_job.specs.declared.kind.Kind.TheVariants as kinds
+use Rattle.gl_job.specs.Texts.{End, ended, no_memory}
+use Rattle.gl_job.specs.Points.{told, Refuses}
+use Rattle.gl_job.proofs.Points.{told_refuses}
+use Rattle.gl_said.specs.Texts.{fault_text, cell_text, not_yet_text}
+use Rattle.gl_run.specs.Jobs.{library_text}
+
+-- ---- decks
+
+flat_job_of : (top : Option (List ℕ)) (bytes : List ℕ) (deck : Deck) → read_deck true bytes ≡ Ok deck → flat_job top bytes ≡ (flatten deck deck.globals top >>= λ f. Ok (flat_text f))
+flat_job_of top bytes deck is = ap (λ (r : Result Deck Fault). (r >>= λ (d : Deck). flatten d d.globals top) >>= λ (f : Flat). Ok (flat_text f)) is
+
+-- the deck is refused as it is read
+pub read_refused : (top : Option (List ℕ)) (bytes : List ℕ) (given : Option Fault) → IsRefusal given (read_deck true bytes) → IsRefusal given (flat_job top bytes)
+read_refused top bytes None h = tt
+read_refused top bytes (Some fault) h = ap (λ (r : Result Deck Fault). (r >>= λ (d : Deck). flatten d d.globals top) >>= λ (f : Flat). Ok (flat_text f)) h
+
+-- the same of an end that tells it
+pub read_refuses : (top : Option (List ℕ)) (bytes : List ℕ) (end : End) → Refuses kinds.Deck fault_text (read_deck true bytes) end → Refuses kinds.Deck fault_text (flat_job top bytes) end
+read_refuses top bytes end h = by (read_deck true bytes) h where
+  by : (r : Result Deck Fault) → Refuses kinds.Deck fault_text r end → Refuses kinds.Deck fault_text ((r >>= λ (d : Deck). flatten d d.globals top) >>= λ (f : Flat). Ok (flat_text f)) end
+  by (Err fault) t = t
+  by (Ok deck) memory = later (flatten deck deck.globals top >>= λ (f : Flat). Ok (flat_text f)) where
+    later : (r : Result (List ℕ) Fault) → Refuses kinds.Deck fault_text r end
+    later (Ok text) = memory
+    later (Err fault) = inl memory
+
+-- the deck is refused as it is flattened
+pub flatten_refused : (top : Option (List ℕ)) (bytes : List ℕ) (deck : Deck) (given : Option Fault) → read_deck true bytes ≡ Ok deck → IsRefusal given (flatten deck deck.globals top) → Refuses kinds.Deck fault_text (flat_job top bytes) (told kinds.Deck fault_text given)
+flatten_refused top bytes deck given is h = told_refuses kinds.Deck fault_text given (flat_job top bytes) (by given h) where
+  by : (g : Option Fault) → IsRefusal g (flatten deck deck.globals top) → IsRefusal g (flat_job top bytes)
+  by None t = tt
+  by (Some fault) t = flat_job_of top bytes deck is ∙ ap (λ (r : Result Flat Fault). r >>= λ (f : Flat). Ok (flat_text f)) t
+
+-- the flat text
+pub flat_text_is : (top : Option (List ℕ)) (bytes : List ℕ) (deck : Deck) (flat : Flat) (text : List ℕ) → read_deck true bytes ≡ Ok deck → flatten deck deck.globals top ≡ Ok flat → text ≡ flat_text flat → flat_job top bytes ≡ Ok text
+flat_text_is top bytes deck flat text is flattened text_is =
+    flat_job_of top bytes deck is ∙ (ap (λ (r : Result Flat Fault). r >>= λ (f : Flat). Ok (flat_text f)) flattened ∙ ap Ok (sym text_is))
+
+-- ---- libraries
+
+-- the library is refused as it is read
+pub library_refused : (bytes : List ℕ) (given : Option Cause) → IsRefusal given (read_library bytes) → Refuses kinds.Library library_text (taken_library bytes) (told kinds.Library cell_text given)
+library_refused bytes None h = by (taken_library bytes) where
+  by : (r : Result Library LibraryCause) → Refuses kinds.Library library_text r no_memory
+  by (Ok library) = refl
+  by (Err cause) = inl refl
+library_refused bytes (Some cause) h = told_refuses kinds.Library library_text (Some (refused cause)) (taken_library bytes) (ap without_calls h)
+
+-- the library has an X card
+pub library_calls : (bytes : List ℕ) (library : Library) (line : ℕ) → read_library bytes ≡ Ok library → first_call library.deck ≡ Some line → Refuses kinds.Library library_text (taken_library bytes) (ended kinds.Library (not_yet_text line))
+library_calls bytes library line is call =
+    told_refuses kinds.Library library_text (Some (not_yet line)) (taken_library bytes) (ap without_calls is ∙ ap (λ (l : Option ℕ). or_else (option_map not_yet l) library) call)
+
+-- the library has none
+pub library_taken : (bytes : List ℕ) (library : Library) → read_library bytes ≡ Ok library → first_call library.deck ≡ None → taken_library bytes ≡ Ok library
+library_taken bytes library is call = ap without_calls is ∙ ap (λ (l : Option ℕ). or_else (option_map not_yet l) library) call

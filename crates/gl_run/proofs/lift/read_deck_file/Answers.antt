@@ -1,0 +1,27 @@
+use Rattle.std.proofs.Common.{ℕ, List, true, sym, subst}
+use Rattle.gl_text.specs.Decks.{read_deck}
+use Rattle.gl_desk.specs.declared.slot.Slot.TheVariants.{Deck}
+use Rattle.gl_job.specs.declared.kind.Kind.TheVariants as kinds
+use Rattle.gl_job.specs.Runs.{run_of, opening, IsWhole}
+use Rattle.gl_said.specs.Texts.{fault_text}
+use Rattle.gl_run.proofs.Reading.{read_of, not_read_of, stopped_of}
+use Rattle.gl_run.proofs.lift.read_deck_file.Goals as goal
+
+pub returns-in-Ok-clause-deck : goal.returns-in-Ok-clause-deck
+returns-in-Ok-clause-deck g c =
+    let r = run_of g.D.Desk.shows g.D.Desk.held g.D.Desk.wants c.args.desk.now c.read.new.desk in
+    let o = opening Deck c.args.word.now in
+    let whole = subst (λ (bytes : List ℕ). IsWhole r o bytes) (sym c.deref.ensures.value) c.in-Ok.ensures.whole in
+    read_of (λ deck. deck) (read_deck true) o c.deref.result.now r c.deck_of.result whole c.deck_of.ensures.deck
+
+pub returns-in-Ok-clause-none : goal.returns-in-Ok-clause-none
+returns-in-Ok-clause-none g c =
+    let r = run_of g.D.Desk.shows g.D.Desk.held g.D.Desk.wants c.args.desk.now c.read.new.desk in
+    let o = opening Deck c.args.word.now in
+    let whole = subst (λ (bytes : List ℕ). IsWhole r o bytes) (sym c.deref.ensures.value) c.in-Ok.ensures.whole in
+    not_read_of kinds.Deck fault_text (read_deck true) o c.deref.result.now r c.deck_of.result whole c.deck_of.ensures.refused
+
+pub returns-in-Err-clause-none : goal.returns-in-Err-clause-none
+returns-in-Err-clause-none g c =
+    let r = run_of g.D.Desk.shows g.D.Desk.held g.D.Desk.wants c.args.desk.now c.read.new.desk in
+    stopped_of kinds.Deck fault_text (read_deck true) (opening Deck c.args.word.now) r c.in-Err.stop c.in-Err.ensures.unread

@@ -1,0 +1,46 @@
+//! Refusals of flattening.
+ghost use Rattle.std.specs.Prelude.{◌≡◌};
+ghost use Rattle.gl_flat.specs.Refusals.{fault_of, too_many};
+ghost use Rattle.gl_job.specs.Points.{told_kind, told_text};
+ghost use Rattle.gl_job.specs.Texts.{parts_text};
+ghost use Rattle.gl_said.specs.Texts.{fault_text};
+
+use crate::makers::{Parts, name as behind, nothing, one};
+use gl_flat::{FlatFault, What};
+use gl_job::Kind;
+
+/// That there are too many cards or devices.
+fn too_many_parts<'a>(what: What, number: u32) -> Parts<'a>
+    ensures text { parts_text result ≡ fault_text (too_many what number) }
+{
+    match what {
+        What::Cards => one("22 TooMany what=Cards number=", number),
+        What::Devices => one("22 TooMany what=Devices number=", number),
+    }
+}
+
+/// What is said of a refusal of flattening; nothing of want of memory.
+pub fn flat_parts<'a>(fault: &'a FlatFault) -> Parts<'a>
+    ensures text { parts_text result ≡ told_text fault_text (fault_of fault.now) }
+{
+    match fault {
+        FlatFault::NameClash { name } => behind("20 NameClash name=", name.as_bytes()),
+        FlatFault::LongFlatName { len } => one("21 LongFlatName len=", *len),
+        FlatFault::TooMany { what, number } => too_many_parts(*what, *number),
+        FlatFault::TooDeep { number } => one("23 TooDeep number=", *number),
+        FlatFault::NoTop { name } => behind("24 NoTop name=", name.as_bytes()),
+        FlatFault::TopDevices { line } => one("25 TopDevices line=", *line),
+        FlatFault::LongText { number } => one("26 LongText number=", *number),
+        FlatFault::Memory => nothing(),
+    }
+}
+
+/// Of which kind a refusal of flattening is: of the given one, or want of memory.
+pub fn flat_kind(kind: Kind, fault: &FlatFault) -> Kind
+    ensures kind { result ≡ told_kind kind (fault_of fault.now) }
+{
+    match fault {
+        FlatFault::Memory => Kind::Memory,
+        _ => kind,
+    }
+}
