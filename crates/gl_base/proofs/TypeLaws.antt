@@ -24,13 +24,13 @@ exact (of_letter a) (of_cell c n) e = absurd cc
 exact (of_cell c m) (of_word b w) e = absurd cc
 exact (of_cell c m) (of_model b w) e = absurd cc
 exact (of_cell c m) (of_letter b) e = absurd cc
-exact (of_cell c m) (of_cell d n) e = let r = and_parts (eqb m n) (same_text c d) e in ap (of_cell c) (eqb-true m n r.0) ∙ ap (λ b. of_cell b n) (text.exact c d r.1)
+exact (of_cell c m) (of_cell d n) e = let r = and_parts (same_text m n) (same_text c d) e in ap (of_cell c) (text.exact m n r.0) ∙ ap (λ b. of_cell b n) (text.exact c d r.1)
 
 pub itself : (x : TypeName) → same_type x x ≡ true
 itself (of_word a v) = and_from (eqb a a) (same_text v v) (eq-eqb a a refl) (text.itself v)
 itself (of_model a v) = and_from (eqb a a) (same_text v v) (eq-eqb a a refl) (text.itself v)
 itself (of_letter a) = eq-eqb a a refl
-itself (of_cell c n) = and_from (eqb n n) (same_text c c) (eq-eqb n n refl) (text.itself c)
+itself (of_cell c n) = and_from (same_text n n) (same_text c c) (text.itself n) (text.itself c)
 
 pub once_is : (types : List TypeName) → each_once types ≡ once_by same_type types
 once_is [] = refl

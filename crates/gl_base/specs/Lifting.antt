@@ -1,40 +1,16 @@
 -- What the job `lift` writes of a deck and a library: the report of one round over the searched cells of level 0. This project's own.
-use Rattle.std.specs.Prelude.{◌≡◌, ℕ, List, length, map, flat_map, filter_map, zip, Option, None, Result, Ok, Err, option_map}
-use Rattle.gl_fault.specs.Refusals.{or_else}
+use Rattle.std.specs.Prelude.{◌≡◌, ℕ, List, length, map, zip, None, Result, Ok}
 use Rattle.gl_text.specs.LogicalLines.{Fault}
-use Rattle.gl_text.specs.Decks.{Sub, Deck}
+use Rattle.gl_text.specs.Decks.{Deck}
 use Rattle.gl_text.specs.Flattening.{Flat, device_name, flatten}
-use Rattle.gl_text.specs.CellCards.{call_line, earliest}
 use Rattle.gl_match.specs.declared.role.Pick.{Pick}
 use Rattle.gl_match.specs.Listing.{Instance}
-use Rattle.gl_base.specs.Libraries.{Cause, Library, read_library}
+use Rattle.gl_base.specs.Libraries.{Library}
 use Rattle.gl_base.specs.Rails.{run_rails}
 use Rattle.gl_base.specs.BaseCircuit.{circuit_of, nets_of}
 use Rattle.gl_base.specs.Stems.{IsStem, names_in}
 use Rattle.gl_base.specs.Rounds.{cards_of, source_of, cells_at, searched, cell_pattern, IsRound}
 use Rattle.gl_base.specs.RoundReports.{RunNames, RoundPart, cell_parts, rounds_of, left_of, report_text}
-
--- ---- what is taken so far
-
--- why a library is not taken: a refusal, or the line of its first X card, which is not taken yet
-pub data LibraryCause : Type 0 where
-  refused : Cause → LibraryCause
-  not_yet : ℕ → LibraryCause
-
--- the line of the first X card in a subcircuit, if there is one
-abbrev pub first_call : Deck → Option ℕ
-first_call deck = earliest (flat_map (λ (s : Sub). filter_map call_line s.cards) deck.subs)
-
--- a library that was read, if it has no X card
-abbrev pub without_calls : Result Library Cause → Result Library LibraryCause
-without_calls (Ok library) = or_else (option_map not_yet (first_call library.deck)) library
-without_calls (Err cause) = Err (refused cause)
-
--- the library of a file without a title, if it has no X card
-abbrev pub taken_library : List ℕ → Result Library LibraryCause
-taken_library bytes = without_calls (read_library bytes)
-
--- ---- what is written
 
 -- the flat deck of a deck, with the rails of the run: the deck's globals, and then the library's
 abbrev pub flat_deck : Deck → Library → Result Flat Fault

@@ -5,19 +5,19 @@ use Rattle.gl_text.specs.LogicalLines.{same_text}
 use Rattle.gl_text.specs.Cards.{Device as Card, Model, first_byte}
 
 -- A type: a letter with the type word of its model; a letter with the name of a model that nothing defines; a letter that takes no model;
--- a cell with the number of its ports. So a cell named `r` is no resistor, and a model that nothing defines is no type word.
+-- a cell with the classes of its ports. So a cell named `r` is no resistor, and a model that nothing defines is no type word.
 pub data TypeName : Type 0 where
   of_word : ℕ → List ℕ → TypeName
   of_model : ℕ → List ℕ → TypeName
   of_letter : ℕ → TypeName
-  of_cell : List ℕ → ℕ → TypeName
+  of_cell : List ℕ → List ℕ → TypeName
 
 -- two types are the same
 abbrev pub same_type : TypeName → TypeName → Bool
 same_type (of_word a v) (of_word b w) = (a == b) && same_text v w
 same_type (of_model a m) (of_model b n) = (a == b) && same_text m n
 same_type (of_letter a) (of_letter b) = a == b
-same_type (of_cell c m) (of_cell d n) = (m == n) && same_text c d
+same_type (of_cell c m) (of_cell d n) = same_text m n && same_text c d
 same_type _ _ = false
 
 -- the type word of the first model of a name
@@ -51,12 +51,16 @@ abbrev pub classes_by : List (ℕ × List ℕ) → ℕ → List ℕ
 classes_by [] letter = []
 classes_by (row ∷ rows) letter = if row.0 == letter then row.1 else classes_by rows letter
 
--- the class of each place of a type; each port of a cell is one
+-- the classes of the ports of a cell that has so many: each port is one
+abbrev pub port_classes : ℕ → List ℕ
+port_classes ports = range_with_len 0 ports
+
+-- the class of each place of a type
 abbrev pub classes_of : TypeName → List ℕ
 classes_of (of_word letter word) = classes_by letter_classes letter
 classes_of (of_model letter model) = classes_by letter_classes letter
 classes_of (of_letter letter) = classes_by letter_classes letter
-classes_of (of_cell name ports) = range_with_len 0 ports
+classes_of (of_cell name classes) = classes
 
 -- each once, in order of first appearance
 abbrev pub each_once : List TypeName → List TypeName

@@ -1,6 +1,7 @@
 //! Circuits and patterns: what is built is sound, holds what was given, and looks each answer up.
 #![tactic(auto)]
 
+mod cell;
 mod checks;
 mod circuit;
 mod device;
@@ -13,10 +14,9 @@ mod railed;
 mod roles;
 mod shape;
 mod tables;
-#[cfg(test)]
-mod tests;
 mod turning;
 
+pub use cell::Cell;
 pub use circuit::Circuit;
 pub use device::Device;
 pub use fault::BuildFault;

@@ -10,10 +10,11 @@ use Rattle.gl_base.specs.Libraries.{greatest}
 use Rattle.gl_base.specs.Rounds.{is_searched, searched}
 use Rattle.gl_lifting.specs.Runs.{Run, pattern_in}
 use Rattle.gl_lifting.specs.Histories.{levels_of}
-use Rattle.gl_history.specs.Plain.{Cell, RoundCell}
+use Rattle.gl_match.specs.Cells.{Cell}
+use Rattle.gl_history.specs.Plain.{RoundCell}
 use Rattle.gl_history.specs.Searching.{pattern_at, patterns_at, number_at, numbers_at, rounds_of}
 use Rattle.gl_history.specs.Replacing.{kind_at}
-use Rattle.gl_history.specs.Shown.{cell_in, pattern_unless}
+use Rattle.gl_lifting.specs.SearchedCells.{cell_in, pattern_unless}
 use Rattle.gl_history.proofs.ChosenLaws.{HasKind}
 
 -- those of a level that are searched

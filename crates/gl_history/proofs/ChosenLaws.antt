@@ -14,7 +14,8 @@ use Rattle.gl_lifting.specs.Runs.{Run, run_types, cell_type}
 use Rattle.gl_lifting.specs.Replacement.{Slot, Composite, composite_of, composite_slot, is_lowest, after_at, replaced}
 use Rattle.gl_lifting.specs.Replacement as replacement
 use Rattle.gl_lifting.specs.Histories.{chosen_of, chosen_in}
-use Rattle.gl_history.specs.Plain.{Cell, RoundCell}
+use Rattle.gl_match.specs.Cells.{Cell}
+use Rattle.gl_history.specs.Plain.{RoundCell}
 use Rattle.gl_history.specs.Replacing as numbered
 
 -- a chosen instance has the devices of a composite, and stands for it as its device does

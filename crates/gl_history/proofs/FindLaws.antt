@@ -11,8 +11,10 @@ use Rattle.gl_match.specs.Graph.{Circuit, Pattern, FitsInto}
 use Rattle.gl_match.specs.Listing.{Instance, Listed}
 use Rattle.gl_match.specs.Choice.{sets_of, sets_in}
 use Rattle.gl_base.specs.Rounds.{IsRound}
-use Rattle.gl_history.specs.Plain.{Cell, RoundCell, round_cell}
-use Rattle.gl_history.specs.Searching.{pattern_at, patterns_at, number_at, numbers_at, FitsIfAny, IsForCircuit}
+use Rattle.gl_match.specs.Cells.{Cell}
+use Rattle.gl_history.specs.Plain.{RoundCell, round_cell}
+use Rattle.gl_graph.specs.FitCells.{FitsIfAny, IsForCircuit}
+use Rattle.gl_history.specs.Searching.{pattern_at, patterns_at, number_at, numbers_at}
 use Rattle.gl_history.specs.Reached.{AreFound}
 use Rattle.gl_history.proofs.ChosenLaws.{zip_long}
 

@@ -15,11 +15,13 @@ use Rattle.gl_lifting.specs.Histories as histories
 use Rattle.gl_lifting.specs.Histories.{Stage, Follow, IsRoundAt, circuit_at, first_stage, composites_of, stage_behind}
 use Rattle.gl_history.specs.declared.origin.Origin as declared
 use Rattle.gl_history.specs.declared.origin.Origin.TheVariants.{Base}
-use Rattle.gl_history.specs.Plain.{Cell, RoundCell, Round, Lifted, origin_value}
+use Rattle.gl_match.specs.Cells.{Cell}
+use Rattle.gl_history.specs.Plain.{RoundCell, Round, Lifted, origin_value}
 use Rattle.gl_history.specs.Searching.{patterns_at, numbers_at, rounds_of}
 use Rattle.gl_history.specs.Replacing.{Chosen, chosen_of, slots_of, slots_after, kind_at}
 use Rattle.gl_history.specs.Reached.{start_of, slots_behind, behind, AreFound, IsStep, Reached}
-use Rattle.gl_history.specs.Shown.{AreCells, cell_in, Shows, IsLifted}
+use Rattle.gl_lifting.specs.SearchedCells.{AreCells, cell_in}
+use Rattle.gl_history.specs.Shown.{Shows, IsLifted}
 use Rattle.gl_history.proofs.SlotLaws.{together}
 use Rattle.gl_history.proofs.ChosenLaws.{IsSame, HasKind, slots_same, chosen_same, zip_long}
 use Rattle.gl_history.proofs.CellLaws.{patterns_are, numbers_are, zip_shown, rounds_are}

@@ -11,7 +11,8 @@ use Rattle.gl_match.specs.Choice.{sets_of, sets_in}
 use Rattle.gl_round.proofs.KeysBelow.{lists_below}
 use Rattle.gl_history.specs.declared.composite.Composite.{Composite}
 use Rattle.gl_history.specs.declared.fate.Fate.{Fate}
-use Rattle.gl_history.specs.Plain.{Cell, RoundCell}
+use Rattle.gl_match.specs.Cells.{Cell}
+use Rattle.gl_history.specs.Plain.{RoundCell}
 use Rattle.gl_history.specs.Searching.{pattern_at, number_at, numbers_at}
 use Rattle.gl_history.specs.Replacing.{Chosen}
 use Rattle.gl_history.specs.Marks.{IsMarked, IsWithin, fate_at}

@@ -8,8 +8,9 @@ use Rattle.gl_match.specs.declared.role.Role.{Role}
 use Rattle.gl_match.specs.declared.role.Role.TheVariants.{Port, Rail, Inner}
 use Rattle.gl_match.specs.Graph.{Device, Circuit, Pattern, HasShape, IsKnownRail, FitsInto}
 use Rattle.gl_lifting.specs.Replacement.{Slot, base}
-use Rattle.gl_history.specs.Plain.{Cell, RoundCell, Lifted}
-use Rattle.gl_history.specs.Searching.{HasPorts, FitsIfAny, IsForCircuit}
+use Rattle.gl_match.specs.Cells.{Cell}
+use Rattle.gl_history.specs.Plain.{RoundCell, Lifted}
+use Rattle.gl_graph.specs.FitCells.{HasPorts, FitsIfAny, IsForCircuit}
 use Rattle.gl_history.specs.Reached.{start_of, slots_behind, behind, IsStep}
 use Rattle.gl_history.proofs.HistoryLaws.{with_devices}
 

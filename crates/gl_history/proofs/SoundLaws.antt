@@ -21,8 +21,10 @@ use Rattle.gl_graph.specs.Built.{IsShape, IsBuilt, NetsBelow, IsBuiltPattern}
 use Rattle.gl_graph.specs.Faults.{first_in, is_bad_shape, shape_fault, net_fault, device_fault, is_bad_rail, rail_fault, pin_fault, circuit_fault}
 use Rattle.gl_graph.proofs.FaultLaws.{IsDevice, parts_none}
 use Rattle.gl_lifting.specs.Replacement.{Slot, Origin, is_lowest}
-use Rattle.gl_history.specs.Plain.{Cell, RoundCell, Lifted}
-use Rattle.gl_history.specs.Searching.{pattern_at, patterns_at, number_at, numbers_at, HasPorts, FitsIfAny, IsForCircuit}
+use Rattle.gl_match.specs.Cells.{Cell}
+use Rattle.gl_history.specs.Plain.{RoundCell, Lifted}
+use Rattle.gl_graph.specs.FitCells.{HasPorts, FitsIfAny, IsForCircuit}
+use Rattle.gl_history.specs.Searching.{pattern_at, patterns_at, number_at, numbers_at}
 use Rattle.gl_history.specs.Replacing.{Chosen, chosen_at, chosen_of_cell, chosen_of, kind_at, slot_by, slots_at, slots_after, slots_of}
 use Rattle.gl_history.specs.Reached.{AreFound, slots_behind}
 use Rattle.gl_history.proofs.HistoryLaws.{with_devices}

@@ -1,18 +1,12 @@
--- What is looked for in the rounds of a run, and what they hold, as plain lists and numbers. This project's own.
-use Rattle.std.specs.Prelude.{ℕ, List, Option}
+-- What the rounds of a run hold, as plain lists and numbers. This project's own.
+use Rattle.std.specs.Prelude.{ℕ, List}
 use Rattle.gl_match.specs.declared.role.Pick.{Pick}
-use Rattle.gl_match.specs.Graph.{Circuit, Pattern}
+use Rattle.gl_match.specs.Graph.{Circuit}
 use Rattle.gl_match.specs.Listing.{Instance}
 use Rattle.gl_lifting.specs.Replacement as replacement
 use Rattle.gl_history.specs.declared.composite.Composite.{Composite}
 use Rattle.gl_history.specs.declared.origin.Origin as declared
 use Rattle.gl_history.specs.declared.origin.Origin.TheVariants.{Base, Made}
-
--- a cell as it is searched: its pattern, or none where it is skipped; its level; the type of the devices that stand for its instances
-pub record Cell : Type 0 where
-  pub pattern : Option Pattern
-  pub level : ℕ
-  pub kind : ℕ
 
 -- what was found of a cell in a round: the number of the cell, its list, and a pick for each instance
 pub record RoundCell : Type 0 where

@@ -6,7 +6,8 @@ use Rattle.gl_match.specs.Graph.{Device, Circuit, is_in}
 use Rattle.gl_match.specs.Listing.{Instance}
 use Rattle.gl_match.specs.Choice.{chosen_number}
 use Rattle.gl_lifting.specs.Replacement.{Origin, base, made, Slot, is_lowest}
-use Rattle.gl_history.specs.Plain.{Cell, RoundCell}
+use Rattle.gl_match.specs.Cells.{Cell}
+use Rattle.gl_history.specs.Plain.{RoundCell}
 use Rattle.gl_history.specs.declared.composite.Composite.{Composite}
 
 -- a chosen instance: its devices, the device that takes their place, and where it was found

@@ -2,7 +2,7 @@
 ghost use Rattle.std.specs.Prelude.{◌≡◌, map, All, IfOk};
 ghost use Rattle.std.specs.List.{zip};
 ghost use Rattle.gl_history.specs.Plain.{round_cell};
-ghost use Rattle.gl_history.specs.Searching.{IsForCircuit};
+ghost use Rattle.gl_graph.specs.FitCells.{IsForCircuit};
 ghost use Rattle.gl_history.specs.Reached.{AreFound};
 
 use crate::searching::{numbers_at, patterns_at};

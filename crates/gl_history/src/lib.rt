@@ -1,7 +1,6 @@
 //! The rounds of a run: at each level all searched cells are listed and chosen from, and what is chosen becomes a device of the next round's circuit.
 #![tactic(auto)]
 
-mod cell;
 mod circuit;
 mod composite;
 mod fate;
@@ -15,11 +14,9 @@ mod replacing;
 mod round;
 mod searching;
 mod slot;
-#[cfg(test)]
-mod tests;
 
-pub use cell::Cell;
 pub use composite::Composite;
+pub use gl_graph::Cell;
 pub use gl_legal::CellList;
 pub use gl_match::{Memory, Pick};
 pub use laws::reached_shows_the_history;

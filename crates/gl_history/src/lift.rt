@@ -3,10 +3,12 @@ ghost use Rattle.std.specs.List.{range_with_len};
 ghost use Rattle.gl_lifting.specs.Replacement.{base as base_origin};
 ghost use Rattle.gl_lifting.specs.Runs.{Run, first_circuit};
 ghost use Rattle.gl_history.specs.Plain.{origin_value};
-ghost use Rattle.gl_history.specs.Searching.{IsForCircuit, rounds_of as rounds_by};
+ghost use Rattle.gl_graph.specs.FitCells.{IsForCircuit};
+ghost use Rattle.gl_history.specs.Searching.{rounds_of as rounds_by};
 ghost use Rattle.gl_history.specs.Replacing.{Chosen, chosen_of};
 ghost use Rattle.gl_history.specs.Reached.{start_of, AreFound, behind, IsStep, Reached};
-ghost use Rattle.gl_history.specs.Shown.{AreCells, IsLifted};
+ghost use Rattle.gl_lifting.specs.SearchedCells.{AreCells};
+ghost use Rattle.gl_history.specs.Shown.{IsLifted};
 
 use crate::circuit::with_devices;
 use crate::finding::find;

@@ -11,7 +11,7 @@ use Rattle.gl_match.proofs.TurnLaws.{turn_is}
 use Rattle.gl_match.proofs.AtLaws.{from_range}
 use Rattle.gl_text.specs.Cards.{Device as Card, Call}
 use Rattle.gl_text.specs.Decks.{Body, dev_at, call_at, Sub}
-use Rattle.gl_base.specs.TypeNames.{of_cell, classes_of}
+use Rattle.gl_base.specs.TypeNames.{of_cell, classes_of, port_classes}
 use Rattle.gl_base.specs.BaseCircuit.{Source, type_in}
 use Rattle.gl_base.specs.Reports.{name_at}
 use Rattle.gl_base.proofs.OnceLaws.{place_at}
@@ -53,7 +53,7 @@ pub record Calls (cs : List Composite) (Inner : Body → Part → Type 0) (c : C
   pub origin_is : p.origin ≡ made composite.number
   pub name_is : composite.cell.head.name ≡ c.sub
   pub ports_are : length composite.cell.head.ports ≡ length c.nodes
-  pub turn_below : p.turn < length (turns_of (classes_of (of_cell c.sub (length c.nodes))))
+  pub turn_below : p.turn < length (turns_of (classes_of (of_cell c.sub (port_classes (length c.nodes)))))
   pub parts : AllZip Inner composite.cell.cards composite.parts
 
 -- a device card was matched with a device of the deck, and has a node for each place of its type
@@ -83,7 +83,7 @@ same_places n (c ∷ cs) (p ∷ ps) h g =
     ap₂ (λ (x : ℕ) (xs : List ℕ). x ∷ xs) (omega (arith, there, h.0)) (same_places n cs ps h.1 g.1)
 
 -- a turn of a cell's type leaves each port in its place
-pub one_turn : (name : List ℕ) (ports turn : ℕ) → turn < length (turns_of (classes_of (of_cell name ports))) → turn_at (classes_of (of_cell name ports)) turn ≡ range_with_len 0 ports
+pub one_turn : (name : List ℕ) (ports turn : ℕ) → turn < length (turns_of (classes_of (of_cell name (port_classes ports)))) → turn_at (classes_of (of_cell name (port_classes ports))) turn ≡ range_with_len 0 ports
 one_turn name ports turn below =
     let classes = range_with_len 0 ports in
     let places = turn_at classes turn in
@@ -114,5 +114,5 @@ nodes_stay names =
         ∙ place_at same (λ x y e. sym (eqb-true y x e)) (λ x. eq-eqb x x refl) (range_with_len 0 n) place 0 (once_range 0 n) (omega (arith, lt, length-range_with_len 0 n))
 
 -- the nodes of an X card are turned back to themselves
-pub call_nodes : (s : Source) (line turn : ℕ) (c : Call) → turn < length (turns_of (classes_of (of_cell c.sub (length c.nodes)))) → nodes_back s (call_at line c) turn ≡ c.nodes
+pub call_nodes : (s : Source) (line turn : ℕ) (c : Call) → turn < length (turns_of (classes_of (of_cell c.sub (port_classes (length c.nodes))))) → nodes_back s (call_at line c) turn ≡ c.nodes
 call_nodes s line turn c below = ap (λ places. turned_back places c.nodes) (one_turn c.sub (length c.nodes) turn below) ∙ nodes_stay c.nodes

@@ -15,7 +15,7 @@ use Rattle.gl_printed.specs.ReadDecks.{body_card, FindsSubWithin, IsReadSub, IsR
 use Rattle.gl_printed.specs.FlatDecks.{deck_of, subs_around}
 use Rattle.gl_printed.proofs.Each.{each_left}
 use Rattle.gl_printed.proofs.PrintedFields.{Short}
-use Rattle.gl_base.specs.TypeNames.{of_cell, classes_of}
+use Rattle.gl_base.specs.TypeNames.{of_cell, classes_of, port_classes}
 use Rattle.gl_base.specs.BaseCircuit.{Source, type_in}
 use Rattle.gl_base.specs.Libraries.{Library}
 use Rattle.gl_base.specs.Reports.{name_at}
@@ -125,7 +125,7 @@ module _ (s : Source) (flat : Flat) (stem : List ℕ) (library : Library) (h : H
       (turned_names IsName classes g.turn d.nodes g.turn_below (type_places s d f.is_read.kind) (each_left IsName d.nodes (option_to_list d.model) f.is_read.names.1))
       (turned_long (turn_at classes g.turn) d.nodes) (models_both s e d g.type_is))
   card_fine i (call_at line c) x (g, f) =
-      let classes = classes_of (of_cell c.sub (length c.nodes)) in
+      let classes = classes_of (of_cell c.sub (port_classes (length c.nodes))) in
       let lt = slice_get_within vs.different g.number g.variant g.stands in
       let own = call_parts c f in
       subst (λ y. IsFine (body_card (variant_card s names (call_at line c, y)))) (sym g.is)

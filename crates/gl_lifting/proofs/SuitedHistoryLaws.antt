@@ -13,7 +13,7 @@ use Rattle.gl_text.specs.Decks.{Body, dev_at, call_at, Sub}
 use Rattle.gl_text.specs.Flattening.{Flat}
 use Rattle.gl_printed.specs.ReadDecks.{FindsSubWithin, IsReadSub, IsReadDeck}
 use Rattle.gl_printed.proofs.Each.{each_both, each_to}
-use Rattle.gl_base.specs.TypeNames.{of_cell, same_type}
+use Rattle.gl_base.specs.TypeNames.{of_cell, same_type, port_classes}
 use Rattle.gl_base.specs.BaseCircuit.{Source, type_in, types_of, nets_of, net_number, device_of}
 use Rattle.gl_base.specs.Libraries.{Library, Cell}
 use Rattle.gl_base.specs.Rounds.{cards_of, cells_at, is_searched}
@@ -94,8 +94,8 @@ card_known flat library keep cell inside (call_at line c) at finds =
     let test : Sub → Bool = λ t. same_text t.head.name c.sub in
     let name = exact finds.0.head.name c.sub (find_true test library.deck.subs finds.0 finds.1.found) in
     let there = in_map cell_type library.deck.subs finds.0 (find_in test library.deck.subs finds.0 finds.1.found) in
-    let type-is : cell_type finds.0 ≡ of_cell c.sub (length c.nodes) = ap (λ n. of_cell n (length finds.0.head.ports)) name ∙ ap (of_cell c.sub) (sym finds.1.as_many) in
-    Contains-append_right (types_of s) (map cell_type library.deck.subs) (of_cell c.sub (length c.nodes)) (subst (λ t. Contains (map cell_type library.deck.subs) t) type-is there)
+    let type-is : cell_type finds.0 ≡ of_cell c.sub (port_classes (length c.nodes)) = ap (λ n. of_cell n (port_classes (length finds.0.head.ports))) name ∙ ap (λ n. of_cell c.sub (port_classes n)) (sym finds.1.as_many) in
+    Contains-append_right (types_of s) (map cell_type library.deck.subs) (of_cell c.sub (port_classes (length c.nodes))) (subst (λ t. Contains (map cell_type library.deck.subs) t) type-is there)
 
 -- all cards of a cell
 pub cell_known : (flat : Flat) (library : Library) (keep : List (List ℕ)) → IsReadDeck library.deck → (cell : Sub) → Contains library.deck.subs cell → AllByRecursion (IsOfKnownType (run_of flat library keep)) cell.cards

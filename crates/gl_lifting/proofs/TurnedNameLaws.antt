@@ -9,7 +9,7 @@ use Rattle.gl_match.specs.Turns.{turns_of, turn_at}
 use Rattle.gl_match.proofs.TurnLaws.{turn_is}
 use Rattle.gl_match.proofs.AtLaws.{get_any, turn_length, turn_meets, from_range}
 use Rattle.gl_text.specs.Cards.{Device as Card, device, other, caller, unknown, kinds, by_byte, first_byte, IsDeviceCard}
-use Rattle.gl_base.specs.TypeNames.{of_letter, of_cell, type_by, type_by_model, type_by_word, classes_of, classes_by, letter_classes}
+use Rattle.gl_base.specs.TypeNames.{of_letter, of_cell, type_by, type_by_model, type_by_word, classes_of, classes_by, letter_classes, port_classes}
 use Rattle.gl_base.specs.BaseCircuit.{Source, type_in}
 use Rattle.gl_base.specs.Reports.{name_at}
 use Rattle.gl_base.proofs.OnceLaws.{place_within}
@@ -78,7 +78,7 @@ pub type_places : (s : Source) (card : Card) → IsDeviceCard card → length ca
 type_places s card is = sym (ap length (type_classes _ card) ∙ letter_places (first_byte card.name) (length card.nodes) _ (is.letter other))
 
 -- a cell's type has a place for each port
-pub cell_places : (name : List ℕ) (ports : ℕ) → ports ≡ length (classes_of (of_cell name ports))
+pub cell_places : (name : List ℕ) (ports : ℕ) → ports ≡ length (classes_of (of_cell name (port_classes ports)))
 cell_places name ports = sym (length-range_with_len 0 ports)
 
 -- no letter alone is a letter with a model

@@ -10,8 +10,6 @@ mod read;
 mod row;
 mod rows;
 mod tables;
-#[cfg(test)]
-mod tests;
 mod words;
 
 pub use fault::MapFault;

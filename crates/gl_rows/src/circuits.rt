@@ -6,7 +6,7 @@ ghost use Rattle.gl_text.specs.Decks.{has_twice, once};
 ghost use Rattle.gl_text.specs.CellCards.{IsCellOf};
 ghost use Rattle.gl_match.specs.declared.role.Role.TheVariants.{Port, Rail, Inner};
 ghost use Rattle.gl_base.specs.Rails.{run_rails, AreRails};
-ghost use Rattle.gl_base.specs.TypeNames.{TypeName, same_type, classes_of, of_letter, of_cell};
+ghost use Rattle.gl_base.specs.TypeNames.{TypeName, same_type, port_classes, classes_of, of_letter, of_cell};
 ghost use Rattle.gl_base.specs.BaseCircuit.{circuit_of, nets_of, net_number};
 ghost use Rattle.gl_base.specs.Patterns.{pattern_of, IsSound};
 ghost use Rattle.gl_rows.specs.Sources.{one_inverter, inverter_devices, pass_gate_devices, inverter_head, inverter_cell, one_pass_gate, pass_gate_head, pass_gate_cell, mixed, mixed_head, mixed_cell};
@@ -81,5 +81,5 @@ pub fn classes_of_places()
         (109 ∷ 100 ∷ 114 ∷ 99 ∷ 108 ∷ 118 ∷ 105 ∷ [])
         ≡ (0 ∷ 1 ∷ 0 ∷ 2 ∷ []) ∷ (0 ∷ 1 ∷ []) ∷ (0 ∷ 0 ∷ []) ∷ (0 ∷ 0 ∷ []) ∷ (0 ∷ 1 ∷ [])
         ∷ (0 ∷ 1 ∷ []) ∷ (0 ∷ 1 ∷ []) ∷ [] }
-    ensures cell { classes_of (of_cell (codes "inv") 3) ≡ 0 ∷ 1 ∷ 2 ∷ [] }
+    ensures cell { classes_of (of_cell (codes "inv") (port_classes 3)) ≡ 0 ∷ 1 ∷ 2 ∷ [] }
 {}

@@ -1,7 +1,8 @@
 use Rattle.std.proofs.Common.{◌≡◌, ◌∙◌, ◌+◌, suc, sym, ap, subst, arith}
 use Rattle.std.specs.Prelude.{All}
 use Rattle.gl_history.specs.Plain.{Lifted}
-use Rattle.gl_history.specs.Searching.{IsForCircuit, rounds_of}
+use Rattle.gl_graph.specs.FitCells.{IsForCircuit}
+use Rattle.gl_history.specs.Searching.{rounds_of}
 use Rattle.gl_history.specs.Reached.{Reached}
 use Rattle.gl_history.proofs.ReachedLaws.{pinned_kept, cells_kept, origins_kept, start_long}
 use Rattle.gl_history.proofs.HistoryLaws.{history_shown}

@@ -1,6 +1,6 @@
 use Rattle.std.proofs.Common.{◌≡◌, length}
 use Rattle.std.specs.Prelude.{All}
-use Rattle.gl_history.specs.Searching.{IsForCircuit}
+use Rattle.gl_graph.specs.FitCells.{IsForCircuit}
 use Rattle.gl_history.specs.Reached.{Reached}
 use Rattle.gl_history.proofs.lift.Lift.run.Given as goal
 
