@@ -8,7 +8,7 @@ use Rattle.std.specs.Option.{option_copied}
 use Rattle.gl_card.specs.declared.line.Parts.{Parts}
 use Rattle.gl_card.specs.Lines.{line_of, spaced_all}
 
-joined : (w : List ℕ) (ws : List (List ℕ)) → join_with_byte 32 (w ∷ ws) ≡ w ++ spaced_all ws
+pub joined : (w : List ℕ) (ws : List (List ℕ)) → join_with_byte 32 (w ∷ ws) ≡ w ++ spaced_all ws
 joined w [] = sym (append-nil w)
 joined w (v ∷ vs) = ap (λ t. w ++ (32 ∷ t)) (joined v vs)
 

@@ -1,56 +1,16 @@
 -- How long a card's tail is.
-use Rattle.std.proofs.Common.{◌≡◌, ◌≤◌, ℕ, zero, suc, List, [], ◌∷◌, length, cond, eqb, true, false, Bool, refl, ap, ◌∙◌, arith}
+use Rattle.std.proofs.Common.{◌≡◌, ◌≤◌, ℕ, zero, suc, List, [], ◌∷◌, length, cond, true, false, Bool, refl, ap, ◌∙◌, arith}
 use Rattle.std.specs.Prelude.{filter}
 use Rattle.std.specs.List.{AllByRecursion}
-use Rattle.gl_text.specs.LogicalLines.{Piece, is_blank, is_loose, is_separator, is_field, onto, pieces_of, fields_of, put_back, trim_end, trim_front, squeeze, squeezed, tail_of}
+use Rattle.gl_text.specs.LogicalLines.{Piece, is_separator, is_field, onto, pieces_of, fields_of}
 use Rattle.gl_text.specs.Cards.{Card, dev, model, Kind, device, caller, modelling, opening, closing, globals, ending, control, other, unknown, kind_of, card_by, card_of, names_of, tail_at, all_fields, behind}
+use Rattle.gl_text.proofs.Trims.{tail_shorter}
 
 -- a card's own tail
 abbrev pub tail_of_card : Card → List ℕ
 tail_of_card (dev d) = d.tail
 tail_of_card (model m) = m.tail
 tail_of_card _ = []
-
--- ---- tails are no longer than their text
-
-front_short : (p : ℕ → Bool) (xs : List ℕ) → length (trim_front p xs) ≤ length xs
-front_short p [] = omega arith
-front_short p (x ∷ xs) = by (p x) (front_short p xs) where
-  by : (b : Bool) → length (trim_front p xs) ≤ length xs → length (cond b (trim_front p xs) (x ∷ xs)) ≤ length (x ∷ xs)
-  by true h = omega arith
-  by false h = omega arith
-
-back_short : (p : ℕ → Bool) (x : ℕ) (xs : List ℕ) → length (put_back p x xs) ≤ length (x ∷ xs)
-back_short p x [] = by (p x) where
-  by : (b : Bool) → length (cond b [] (x ∷ [])) ≤ 1
-  by true = omega arith
-  by false = omega arith
-back_short p x (y ∷ ys) = omega arith
-
-end_short : (p : ℕ → Bool) (xs : List ℕ) → length (trim_end p xs) ≤ length xs
-end_short p [] = omega arith
-end_short p (x ∷ xs) = let h = back_short p x (trim_end p xs) in let g = end_short p xs in omega arith
-
-squeeze_by : (x c : ℕ) (cs : List ℕ) (b e : Bool) → length (cond b (cond e (c ∷ cs) (32 ∷ c ∷ cs)) (x ∷ c ∷ cs)) ≤ length (x ∷ c ∷ cs)
-squeeze_by x c cs true true = omega arith
-squeeze_by x c cs true false = omega arith
-squeeze_by x c cs false e = omega arith
-
-squeeze_short : (x : ℕ) (s : List ℕ) → length (squeeze x s) ≤ length (x ∷ s)
-squeeze_short x [] = omega arith
-squeeze_short x (c ∷ cs) = squeeze_by x c cs (is_blank x) (eqb c 32)
-
-squeezed_short : (xs : List ℕ) → length (squeezed xs) ≤ length xs
-squeezed_short [] = omega arith
-squeezed_short (x ∷ xs) = let h = squeeze_short x (squeezed xs) in let g = squeezed_short xs in omega arith
-
-tail_short : (xs : List ℕ) → length (tail_of xs) ≤ length xs
-tail_short xs =
-    let front = trim_front is_loose xs in
-    let a = front_short is_loose xs in
-    let b = end_short is_blank front in
-    let c = squeezed_short (trim_end is_blank front) in
-    omega arith
 
 -- ---- the text behind a field
 
@@ -90,11 +50,11 @@ behind_short n (suc (suc k)) (p ∷ ps) w = behind_short n (suc k) ps w.1
 tail_at_short : (k : Kind) (text : List ℕ) → length (tail_at k (fields_of text)) ≤ length text
 tail_at_short (device nodes count) text =
     let h = behind_short (length text) count (fields_of text) (filter_within (length text) (pieces_of text) (pieces_within text)) in
-    let g = tail_short (behind count (fields_of text)) in
+    let g = tail_shorter (behind count (fields_of text)) in
     omega arith
 tail_at_short modelling text =
     let h = behind_short (length text) 3 (fields_of text) (filter_within (length text) (pieces_of text) (pieces_within text)) in
-    let g = tail_short (behind 3 (fields_of text)) in
+    let g = tail_shorter (behind 3 (fields_of text)) in
     omega arith
 tail_at_short caller text = omega arith
 tail_at_short opening text = omega arith

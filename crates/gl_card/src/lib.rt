@@ -16,8 +16,6 @@ mod print;
 mod read;
 mod refusals;
 mod slices;
-#[cfg(test)]
-mod tests;
 
 pub use call::CallCard;
 pub use card::Card;

@@ -1,4 +1,3 @@
-mod EarliestLaws
 pub mod KnownLaws
 mod NameLaws
 mod PlacedLaws

@@ -10,11 +10,13 @@ use Rattle.gl_text.specs.LogicalLines.{same_text}
 use Rattle.gl_text.specs.Decks.{Sub, callees, find_sub}
 use Rattle.gl_deck.specs.Bodies.{names_of}
 use Rattle.gl_deck.specs.Places.{place_in, places_of}
-use Rattle.gl_deck.proofs.CallLaws.{flipped}
+use Rattle.gl_text.proofs.Names.{flipped}
 use Rattle.gl_deck.proofs.PlaceLaws.{place_within}
 use Rattle.gl_size.specs.Tallies.{has_mark}
+use Rattle.gl_size.proofs.ChainLaws.{or_false}
+use Rattle.gl_size.proofs.CountLaws.{up}
 use Rattle.gl_base.specs.Libraries.{above, greatest, level_through, own_skip, is_called, skip_by, skipped_callee, is_skipped_through, uses_else, Skip}
-use Rattle.gl_cells.specs.Outlines.{Outline, outline_of, outlines_of, level_by, skipped_by, levels_through, marks_through}
+use Rattle.gl_cells.specs.Outlines.{Outline, outline_of, outlines_of, level_by, is_skipped_by, levels_through, marks_through}
 
 -- ---- a value of the cell of a name
 
@@ -26,9 +28,6 @@ at_place none xs (Some place) = get_or xs place none
 -- what a function says of a cell, if there is one
 abbrev of_found : {A : Type 0} → A → (Sub → A) → Option Sub → A
 of_found none f found = unwrap_or (option_map f found) none
-
-up : (k : ℕ) → suc k ≡ 1 + k
-up k = omega arith
 
 found_by : {A : Type 0} (none : A) (f : Sub → A) (b : Bool) (s : Sub) (o : Option Sub) (xs : List A) (k : ℕ) → of_found none f o ≡ get_or xs k none → of_found none f (cond b (Some s) o) ≡ get_or (f s ∷ xs) (cond (not b) (1 + k) 0) none
 found_by none f true s o xs k h = refl
@@ -119,10 +118,6 @@ called_found : (f : Sub → Bool) (found : Option Sub) → of_found false f foun
 called_found f None = refl
 called_found f (Some s) = refl
 
-or_false : (b : Bool) → (b || false) ≡ b
-or_false true = refl
-or_false false = refl
-
 mark_at : (marks : List Bool) (place : Option ℕ) → has_mark marks (option_to_list place) ≡ at_place false marks place
 mark_at marks None = refl
 mark_at marks (Some place) = or_false (get_or marks place false)
@@ -149,19 +144,19 @@ skipped_some None None = refl
 skipped_some None (Some name) = refl
 skipped_some (Some skip) called = refl
 
-skipped_is : (f : Sub → Bool) (subs : List Sub) (s : Sub) → skipped_by (map f subs) (outline_of subs s) ≡ is_some (skip_by f subs s)
+skipped_is : (f : Sub → Bool) (subs : List Sub) (s : Sub) → is_skipped_by (map f subs) (outline_of subs s) ≡ is_some (skip_by f subs s)
 skipped_is f subs s =
     ap (λ b. is_some (own_skip s) || b) (marks_of_names f subs (callees s.cards))
     ∙ skipped_some (own_skip s) (skipped_callee f subs s.cards)
 
-marks_by : (subs : List Sub) (calls : ℕ) (ss : List Sub) → map (skipped_by (marks_through subs calls)) (map (outline_of subs) ss) ≡ map (is_skipped_through subs (suc calls)) ss
+marks_by : (subs : List Sub) (calls : ℕ) (ss : List Sub) → map (is_skipped_by (marks_through subs calls)) (map (outline_of subs) ss) ≡ map (is_skipped_through subs (suc calls)) ss
 marks_by subs calls [] = refl
 marks_by subs calls (s ∷ ss) =
-    ap (λ b. b ∷ map (skipped_by (marks_through subs calls)) (map (outline_of subs) ss)) (skipped_is (is_skipped_through subs calls) subs s)
+    ap (λ b. b ∷ map (is_skipped_by (marks_through subs calls)) (map (outline_of subs) ss)) (skipped_is (is_skipped_through subs calls) subs s)
     ∙ ap (λ bs. is_skipped_through subs (suc calls) s ∷ bs) (marks_by subs calls ss)
 
 -- one call more
-pub next_marks : (subs : List Sub) (calls : ℕ) → map (skipped_by (marks_through subs calls)) (outlines_of subs) ≡ marks_through subs (suc calls)
+pub next_marks : (subs : List Sub) (calls : ℕ) → map (is_skipped_by (marks_through subs calls)) (outlines_of subs) ≡ marks_through subs (suc calls)
 next_marks subs calls = marks_by subs calls subs
 
 -- ---- no call at all

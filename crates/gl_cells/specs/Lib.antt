@@ -1,8 +1,8 @@
 pub mod Causes
-pub mod FirstCalls
 pub mod KnownLibraries
 pub mod Limited
 pub mod Outlines
 pub mod Samples
 pub mod Settled
 pub mod Skips
+pub mod Texts

@@ -22,8 +22,8 @@ abbrev pub level_by : List ℕ → Outline → ℕ
 level_by levels o = greatest (map (λ place. suc (slice_index levels place)) o.calls)
 
 -- whether a cell is skipped, by whether each is
-abbrev pub skipped_by : List Bool → Outline → Bool
-skipped_by marks o = o.skipped || has_mark marks o.calls
+abbrev pub is_skipped_by : List Bool → Outline → Bool
+is_skipped_by marks o = o.skipped || has_mark marks o.calls
 
 -- the level of each cell, through at most so many calls
 abbrev pub levels_through : List Sub → ℕ → List ℕ

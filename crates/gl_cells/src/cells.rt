@@ -44,7 +44,7 @@ pub fn refuse_cells(alloc: Global, cells: &[Sub]) -> Result<(), LibFault>
 }
 
 /// What is said of a cell of this level, unless it breaks a limit.
-fn judged_cell(
+fn lib_cell(
     alloc: Global,
     subs: &Subs,
     sizes: &Sizes,
@@ -66,7 +66,7 @@ fn judged_cell(
 }
 
 /// What is said of each cell, unless one breaks a limit.
-fn judged_cells(
+fn lib_cells(
     alloc: Global,
     subs: &Subs,
     sizes: &Sizes,
@@ -82,12 +82,12 @@ fn judged_cells(
     ensures refused { IfErr result (IsCauseIn (limits_cause subs.now subs.now)) }
 {
     let cells = subs.as_slice();
-    let mut judged = Vec::with_capacity(alloc, cells.len())?;
+    let mut said = Vec::with_capacity(alloc, cells.len())?;
     for place in 0..cells.len() {
         let level = levels[place];
-        judged.push(judged_cell(alloc, subs, sizes, marks, level, &cells[place])?)?;
+        said.push(lib_cell(alloc, subs, sizes, marks, level, &cells[place])?)?;
     }
-    Ok(judged)
+    Ok(said)
 }
 
 /// What is said of each cell, in order, unless one breaks a limit; the first such cell counts, and of it the first limit.
@@ -102,5 +102,5 @@ pub fn cells_within_limits(alloc: Global, subs: &Subs) -> Result<Vec<LibCell>, L
     let levels = levels(alloc, &outlines)?;
     let marks = marks(alloc, &outlines)?;
     let sizes = Sizes::of(alloc, subs)?;
-    judged_cells(alloc, subs, &sizes, &marks, &levels)
+    lib_cells(alloc, subs, &sizes, &marks, &levels)
 }

@@ -1,7 +1,6 @@
 //! Libraries of cells: a file read as its definition has it, with each cell's level and why it is skipped, or the first refusal.
 #![tactic(auto)]
 
-mod calls;
 mod cells;
 mod clashes;
 mod fault;
@@ -13,6 +12,7 @@ mod limits;
 mod outline;
 mod ports;
 mod read;
+mod said;
 mod skip;
 mod skips;
 
@@ -24,4 +24,5 @@ pub use laws::{
     skip_rows,
 };
 pub use library::{LibCell, Library};
+pub use said::library_parts;
 pub use skip::Skip;

@@ -13,7 +13,7 @@ use crate::{Deck, LibCell, LibFault, Library};
 use std::alloc::Global;
 
 /// What is said of each cell of a deck that is a library.
-fn judged(alloc: Global, deck: &Deck) -> Result<Vec<LibCell>, LibFault>
+fn cells_of_deck(alloc: Global, deck: &Deck) -> Result<Vec<LibCell>, LibFault>
     requires read { IsReadDeck deck.now }
     requires few { AreCountable deck.now.subs }
     ensures accepted { OnOk result (library_cause deck.now ≡ None) }
@@ -39,7 +39,7 @@ impl Library {
     {
         read_libraries_are_known();
         let deck = Deck::read(alloc, bytes, false)?;
-        let cells = judged(alloc, &deck)?;
+        let cells = cells_of_deck(alloc, &deck)?;
         Ok(Library { deck, cells })
     }
 }

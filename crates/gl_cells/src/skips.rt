@@ -31,14 +31,14 @@ fn has_marked(marks: &[bool], places: &[usize]) -> bool
 
 /// A cell is skipped, where these are the cells that are.
 fn is_skipped(marks: &[bool], cell: &Outline) -> bool
-    ensures skipped { result ≡ outlines.skipped_by marks.now cell.now }
+    ensures skipped { result ≡ outlines.is_skipped_by marks.now cell.now }
 {
     cell.is_skipped() || has_marked(marks, cell.calls())
 }
 
 /// For each cell whether it is skipped, through one call more than these marks have.
 fn deeper_marks(alloc: Global, cells: &[Outline], marks: &[bool]) -> Result<Vec<bool>, AllocError>
-    ensures marks { IfOk result (λ v. v.items ≡ map (outlines.skipped_by marks.now) cells.now) }
+    ensures marks { IfOk result (λ v. v.items ≡ map (outlines.is_skipped_by marks.now) cells.now) }
 {
     cells
         .iter()

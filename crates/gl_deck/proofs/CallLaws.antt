@@ -1,19 +1,10 @@
 -- Subcircuits by their names, and X cards by their calls.
-use Rattle.std.proofs.Common.{◌≡◌, ℕ, List, [], ◌∷◌, true, cond, Option, Some, refl, ap, ◌∙◌}
+use Rattle.std.proofs.Common.{◌≡◌, ℕ, List, [], ◌∷◌, cond, Option, Some, refl, ap, ◌∙◌}
 use Rattle.std.specs.Map.{keys_of, values_of, lookup}
-use Rattle.std.specs.Cmp.Lexicographic.{bytes_decides, nat_list_eq_equiv}
 use Rattle.gl_text.specs.LogicalLines.{same_text}
 use Rattle.gl_text.specs.Decks.{Sub, find_sub}
+use Rattle.gl_text.proofs.Names.{flipped}
 use Rattle.gl_deck.specs.Bodies.{names_of}
-
-pub exact : (x y : List ℕ) → same_text x y ≡ true → x ≡ y
-exact x y = (bytes_decides x y).0
-
-pub itself : (x : List ℕ) → same_text x x ≡ true
-itself = nat_list_eq_equiv.refl
-
-pub flipped : (x y : List ℕ) → same_text x y ≡ same_text y x
-flipped = nat_list_eq_equiv.symm
 
 pub found_by : (n k m : List ℕ) (s : Sub) (o p : Option Sub) → k ≡ m → o ≡ p → cond (same_text n k) (Some s) o ≡ cond (same_text m n) (Some s) p
 found_by n k m s o p e f = ap (λ j. cond (same_text n j) (Some s) o) e ∙ ap (λ b. cond b (Some s) o) (flipped n m) ∙ ap (λ q. cond (same_text m n) (Some s) q) f

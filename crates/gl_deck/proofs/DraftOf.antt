@@ -2,6 +2,7 @@
 use Rattle.std.proofs.Common.{◌≡◌, ◌<◌, ◌≤◌, ◌+◌, ℕ, List, [], ◌∷◌, ◌++◌, Option, Some, None, refl, arith}
 use Rattle.std.specs.Prelude.{filter_map, flat_map}
 use Rattle.std.specs.List.{AllByRecursion}
+use Rattle.gl_lists.proofs.Each.{each_push}
 use Rattle.indexmap.specs.IndexSet.{insert_all}
 use Rattle.gl_text.specs.LogicalLines.{same_text}
 use Rattle.gl_text.specs.Cards.{Card}
@@ -38,10 +39,6 @@ lower : (b l : ℕ) (cards : List Placed) → b ≤ l → AllByRecursion (λ (p 
 lower b l [] e h = tt
 lower b l (p ∷ ps) e h = (omega (arith, e, h.0), lower b l ps e h.1)
 
-all_more : (P : Placed → Type 0) (xs : List Placed) (x : Placed) → AllByRecursion P xs → P x → AllByRecursion P (xs ++ x ∷ [])
-all_more P [] x h g = (g, tt)
-all_more P (y ∷ ys) x h g = (h.0, all_more P ys x h.1 g)
-
 -- a card more
 pub step : (b l : ℕ) (cards : List Placed) (cur : Option Sub) (d : Draft) (card : Card) → b ≤ l → 0 < b → nested_in cur l card ≡ None → known_at cur d card ≡ None → IsDraftOf b cards cur d
     → IsDraftOf (l + 1) (cards ++ placed cur l card ∷ []) (current_after cur l card) (with_card cur d l card)
@@ -53,7 +50,7 @@ step b l cards cur d card e some nest k h =
     record {
       current_is = current_step cur d l card h.current_is;
       scope_is = scope_grown cards cur l card h.scope_is;
-      low = all_more (λ (q : Placed). q.scope.line < l + 1) cards p (lower b (l + 1) cards (omega (arith, e)) h.low) (scope_low b l cards d cur e h.subs_are.current_is);
+      low = each_push (λ (q : Placed). q.scope.line < l + 1) cards p (lower b (l + 1) cards (omega (arith, e)) h.low) (scope_low b l cards d cur e h.subs_are.current_is);
       top_names_are = grown (name_in 0) cards p d.top_names new.top_names h.top_names_are (top_names_step cur d l card n k);
       here_are = here_step cards cur d l card k low h.top_names_are h.here_are;
       model_names_are = grown model_name cards p d.model_names new.model_names h.model_names_are (model_names_step cur d l card k);

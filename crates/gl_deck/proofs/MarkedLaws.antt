@@ -2,22 +2,19 @@
 use Rattle.std.proofs.Common.{◌≡◌, ℕ, List, [], ◌∷◌, length, Bool, true, false, Option, Some, None, refl, sym, ap, subst, ◌∙◌, inl, inr}
 use Rattle.std.specs.Prelude.{◌⊎◌, slice_get}
 use Rattle.std.specs.List.{IsDistinct}
+use Rattle.std.proofs.lemmas.Option.{same_Some}
+use Rattle.gl_lists.proofs.Bools.{same_bool}
 use Rattle.gl_text.specs.LogicalLines.{same_text}
 use Rattle.gl_text.specs.Decks.{Sub, reaches, steps}
 use Rattle.gl_deck.specs.Bodies.{names_of}
 use Rattle.gl_deck.specs.Places.{place_in}
 use Rattle.gl_deck.specs.Walks.{Walk, is_marked_at, is_marked}
-use Rattle.gl_deck.proofs.CallLaws.{exact, itself}
-use Rattle.gl_deck.proofs.Members.{In, in_any, from_any, in_at}
+use Rattle.gl_text.proofs.Names.{exact, itself}
+use Rattle.gl_deck.proofs.Members.{In, in_one, in_any, from_any, in_at}
 use Rattle.gl_deck.proofs.ReachLaws.{all_found}
 use Rattle.gl_deck.proofs.PlaceLaws.{own_place, at_its_place}
 use Rattle.gl_deck.proofs.MarkLaws.{Marked}
 use Rattle.gl_deck.proofs.WalkLaws.{IsWalk, Looked}
-
-same_bool : (a b : Bool) → (a ≡ true → b ≡ true) → (b ≡ true → a ≡ true) → a ≡ b
-same_bool true b f g = sym (f refl)
-same_bool false true f g = g refl
-same_bool false false f g = refl
 
 -- it stands at a place that is marked
 abbrev Stands : List Sub → Walk → Sub → Type 0
@@ -40,12 +37,12 @@ walked subs t w distinct i walk empty name =
     let at = in_at s subs j in
     let here = own_place subs at.0 s distinct at.1 in
     let there = own_place subs m.0 u distinct m.1 in
-    let same : m.0 ≡ at.0 = some_is (sym there ∙ ap (place_in subs) (sym e) ∙ here) in
+    let same : m.0 ≡ at.0 = same_Some m.0 at.0 (sym there ∙ ap (place_in subs) (sym e) ∙ here) in
     (at.0, at.1, subst (λ (k : ℕ). Marked w k) same m.2))
     (λ u s m j called.
     let at = in_at s subs j in
     (at.0, at.1, looked_at subs w m.0 empty (walk.done m.0 m.2) u s.head.name at.0 m.1 called (own_place subs at.0 s distinct at.1)))
-    (λ u h. subst (λ (v : Sub). Stands subs w v) (sym (only_sub u t h)) first) in
+    (λ u h. subst (λ (v : Sub). Stands subs w v) (sym (in_one u t h)) first) in
     same_bool (is_marked subs w name) (reaches subs t name)
     (λ e.
     let m = marked_place w (place_in subs name) e in
@@ -55,10 +52,4 @@ walked subs t w distinct i walk empty name =
     let u = from_any (λ (v : Sub). same_text v.head.name name) found e in
     let m = all u.0 u.1 in
     let place : place_in subs name ≡ Some m.0 = ap (place_in subs) (sym (exact u.0.head.name name u.2)) ∙ own_place subs m.0 u.0 distinct m.1 in
-    ap (is_marked_at w) place ∙ m.2) where
-      some_is : {A : Type 0} {x y : A} → Some x ≡ Some y → x ≡ y
-      some_is e = cc
-
-      only_sub : (u t : Sub) → In u (t ∷ []) → u ≡ t
-      only_sub u t (inl e) = e
-      only_sub u t (inr h) = absurd h
+    ap (is_marked_at w) place ∙ m.2)

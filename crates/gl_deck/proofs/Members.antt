@@ -5,12 +5,16 @@ use Rattle.std.specs.List.{AllByRecursion, list_any, IsAmong}
 use Rattle.std.proofs.lemmas.Bool.{or_left, or_right}
 use Rattle.gl_text.specs.LogicalLines.{same_text}
 use Rattle.gl_text.specs.Decks.{is_in}
-use Rattle.gl_deck.proofs.CallLaws.{exact, itself}
+use Rattle.gl_text.proofs.Names.{exact, itself}
 
 -- x is one of these
 abbrev pub In : {A : Type 0} → A → List A → Type 0
 In x [] = ⊥
 In x (y ∷ ys) = (x ≡ y) ⊎ In x ys
+
+pub in_one : {A : Type 0} (x y : A) → In x (y ∷ []) → x ≡ y
+in_one x y (inl e) = e
+in_one x y (inr h) = absurd h
 
 -- what holds of all holds of one, and what holds of each holds of all
 pub all_in : {A : Type 0} (P : A → Type 0) (x : A) (xs : List A) → In x xs → AllByRecursion P xs → P x

@@ -11,7 +11,7 @@ use Rattle.gl_text.specs.LogicalLines.{same_text}
 use Rattle.gl_text.specs.Decks.{Sub}
 use Rattle.gl_deck.specs.Bodies.{names_of}
 use Rattle.gl_deck.specs.Places.{place_in}
-use Rattle.gl_deck.proofs.CallLaws.{exact, itself, flipped}
+use Rattle.gl_text.proofs.Names.{exact, itself, flipped}
 
 place_by : (p : List ℕ → Bool) (names : List (List ℕ)) (k n : ℕ) → k < length names → n ≡ k → cond (ltb n (length names)) (Some n) None ≡ Some k
 place_by p names k n h e = subst (λ (m : ℕ). cond (ltb m (length names)) (Some m) None ≡ Some k) (sym e) (grind (arith, within k (length names) h)) where

@@ -5,8 +5,8 @@ use Rattle.std.specs.List.{AllByRecursion}
 use Rattle.gl_text.specs.LogicalLines.{same_text}
 use Rattle.gl_text.specs.Decks.{Sub, callees, find_sub, step, steps, reaches}
 use Rattle.gl_deck.specs.Ranks.{NoneBack, AllThere, HasRank}
-use Rattle.gl_deck.proofs.CallLaws.{exact, itself}
-use Rattle.gl_deck.proofs.Members.{In, all_in, all_of, in_left, in_map, in_filter, from_filter, in_any, is_in_from}
+use Rattle.gl_text.proofs.Names.{exact, itself}
+use Rattle.gl_deck.proofs.Members.{In, in_one, all_in, all_of, in_left, in_map, in_filter, from_filter, in_any, is_in_from}
 use Rattle.gl_deck.proofs.ReachLaws.{names_on, on, filter_short, grow, some_of, Settled, settled, keeps, called_found, all_found}
 
 -- ---- what a name finds
@@ -68,10 +68,7 @@ led_within : (subs found : List Sub) (t : Sub) → Settled subs found → In t f
 led_within subs found t settles i = all_found subs (λ u. In u found) (length subs) (t ∷ [])
     (λ u s m j e. subst (λ (f : List Sub). In s f) settles (in_filter (on found) s subs j (named_on found s u m e)))
     (λ u s m j called. called_found subs found u s settles m j called)
-    (λ u h. subst (λ (v : Sub). In v found) (sym (only_sub u t h)) i) where
-      only_sub : (u t : Sub) → In u (t ∷ []) → u ≡ t
-      only_sub u t (inl e) = e
-      only_sub u t (inr h) = absurd h
+    (λ u h. subst (λ (v : Sub). In v found) (sym (in_one u t h)) i)
 
 fewer_by : (subs ps qs : List Sub) (s t : Sub) → led subs t ≡ ps → In s qs → reaches subs t s.head.name ≡ false → (qs ≡ ps) ⊎ (length ps < length qs) → length ps < length qs
 fewer_by subs ps qs s t e i not (inl f) =

@@ -4,6 +4,7 @@ use Rattle.std.specs.Prelude.{filter_map, ⊤, option_map, option_to_list}
 use Rattle.std.specs.List.{AllByRecursion}
 use Rattle.std.specs.Map.{lookup, keys_of, values_of}
 use Rattle.std.proofs.lemmas.List.{append-nil, map-append}
+use Rattle.gl_lists.proofs.Each.{each_push}
 use Rattle.indexmap.specs.IndexMap.{insert_entry}
 use Rattle.gl_text.specs.LogicalLines.{same_text}
 use Rattle.gl_text.specs.Cards.{Head, Card, dev, call, model, subckt, ends, global, ended, passed}
@@ -86,10 +87,6 @@ top_apart : (b : ℕ) (ss : List Sub) → AllByRecursion (StandsBefore b) ss →
 top_apart b [] g = tt
 top_apart b (s ∷ ss) g = (apart 0 s.line g.0.0, top_apart b ss g.1)
 
-all_more : {A : Type 0} (P : A → Type 0) (xs : List A) (x : A) → AllByRecursion P xs → P x → AllByRecursion P (xs ++ x ∷ [])
-all_more P [] x h g = (g, tt)
-all_more P (y ∷ ys) x h g = (h.0, all_more P ys x h.1 g)
-
 -- ---- a card that opens and closes nothing
 
 heads_kept : (cards : List Placed) (p : Placed) (hs : List (ℕ × Head)) → head_at p ≡ None → hs ≡ filter_map head_at cards → hs ≡ filter_map head_at (cards ++ p ∷ [])
@@ -155,10 +152,10 @@ closes b l cards s name subs e h =
       heads = append-nil (map head_part (values_of (insert_entry same_text subs s.head.name s))) ∙ ap (map head_part) those ∙ map-append head_part (values_of subs) (s ∷ [])
           ∙ heads_kept cards p (heads_of subs (Some s)) refl h.heads;
       named = keyed_more subs s.head.name s refl h.named;
-      closed_bodies = subst P (sym those) (all_more (HasBodies (cards ++ p ∷ [])) (values_of subs) s (bodies_kept cards (Some s) l (ends name) (values_of subs) h.closed_bodies h.closed_apart)
+      closed_bodies = subst P (sym those) (each_push (HasBodies (cards ++ p ∷ [])) (values_of subs) s (bodies_kept cards (Some s) l (ends name) (values_of subs) h.closed_bodies h.closed_apart)
           (h.current_is.2 ∙ sym (no_body s.line cards p refl)));
-      closed_before = subst Q (sym those) (all_more (StandsBefore (l + 1)) (values_of subs) s (later_before b (l + 1) (values_of subs) (omega (arith, e)) h.closed_before) (h.current_is.0, omega (arith, e, h.current_is.1)));
-      closed_apart = subst R (sym those) (all_more (IsApart None) (values_of subs) s (top_apart b (values_of subs) h.closed_before) (apart 0 s.line h.current_is.0));
+      closed_before = subst Q (sym those) (each_push (StandsBefore (l + 1)) (values_of subs) s (later_before b (l + 1) (values_of subs) (omega (arith, e)) h.closed_before) (h.current_is.0, omega (arith, e, h.current_is.1)));
+      closed_apart = subst R (sym those) (each_push (IsApart None) (values_of subs) s (top_apart b (values_of subs) h.closed_before) (apart 0 s.line h.current_is.0));
       current_is = tt;
     }
 

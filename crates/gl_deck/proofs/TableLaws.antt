@@ -6,7 +6,8 @@ use Rattle.indexmap.specs.IndexMap.{insert_entry}
 use Rattle.gl_text.specs.LogicalLines.{same_text}
 use Rattle.gl_text.specs.Decks.{Sub, find_sub}
 use Rattle.gl_deck.specs.Bodies.{names_of, table_of}
-use Rattle.gl_deck.proofs.CallLaws.{exact, found_by}
+use Rattle.gl_text.proofs.Names.{exact}
+use Rattle.gl_deck.proofs.CallLaws.{found_by}
 
 abbrev Keyed : List (List ℕ × Sub) → Type 0
 Keyed es = keys_of es ≡ names_of (values_of es)

@@ -5,8 +5,8 @@ use Rattle.std.proofs.lemmas.Bool.{cases_Bool}
 use Rattle.gl_text.specs.LogicalLines.{same_text}
 use Rattle.gl_text.specs.Decks.{Sub, callees, reaches, steps}
 use Rattle.gl_deck.specs.Ranks.{AreRanks, AtMost, NoneUp, rank_in}
-use Rattle.gl_deck.proofs.CallLaws.{exact}
-use Rattle.gl_deck.proofs.Members.{In, all_in, among_in, from_any}
+use Rattle.gl_text.proofs.Names.{exact}
+use Rattle.gl_deck.proofs.Members.{In, in_one, all_in, among_in, from_any}
 use Rattle.gl_deck.proofs.ReachLaws.{all_found}
 
 -- a subcircuit of at most a number
@@ -29,10 +29,7 @@ found_low rank subs t none i =
     let own : AtMost rank (rank u.head.name) u.cards = all_in (λ (v : Sub). AtMost rank (rank v.head.name) v.cards) u subs m.0 none in
     let low : rank s.head.name ≤ rank u.head.name = all_in (λ n. rank n ≤ rank u.head.name) s.head.name (callees u.cards) called own in
     (j, low_less (rank s.head.name) (rank u.head.name) most low m.1))
-    (λ u h. subst (λ (v : Sub). Low rank subs most v) (sym (only_sub u t h)) (i, omega arith)) where
-      only_sub : (u t : Sub) → In u (t ∷ []) → u ≡ t
-      only_sub u t (inl e) = e
-      only_sub u t (inr h) = absurd h
+    (λ u h. subst (λ (v : Sub). Low rank subs most v) (sym (in_one u t h)) (i, omega arith))
 
 -- so it does not lead up
 pub not_up : (subs : List Sub) (ranks : List ℕ) (t : Sub) (name : List ℕ) → AreRanks subs ranks → IsAmong subs t → rank_in subs ranks t.head.name < rank_in subs ranks name → reaches subs t name ≡ false

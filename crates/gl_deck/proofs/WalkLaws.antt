@@ -3,12 +3,13 @@ use Rattle.std.proofs.Common.{◌≡◌, ◌+◌, ◌<◌, ℕ, List, [], ◌∷
 use Rattle.std.specs.Prelude.{◌⊎◌, slice_get}
 use Rattle.std.specs.List.{IsDistinct}
 use Rattle.std.proofs.lemmas.List.{length-append}
+use Rattle.std.proofs.lemmas.Option.{same_Some}
 use Rattle.gl_text.specs.LogicalLines.{same_text}
 use Rattle.gl_text.specs.Decks.{Sub, callees}
 use Rattle.gl_deck.specs.Bodies.{names_of}
 use Rattle.gl_deck.specs.Places.{place_in}
 use Rattle.gl_deck.specs.Walks.{Walk, marked_all, called_names}
-use Rattle.gl_deck.proofs.Members.{In, in_left, in_right, from_append, at_in, in_at}
+use Rattle.gl_deck.proofs.Members.{In, in_one, in_left, in_right, from_append, at_in, in_at}
 use Rattle.gl_deck.proofs.ReachLaws.{Settled, called_found}
 use Rattle.gl_deck.proofs.PlaceLaws.{own_place, at_its_place}
 use Rattle.gl_deck.proofs.MarkLaws.{Marked, left, unmarked}
@@ -26,10 +27,6 @@ pub record IsWalk (subs found : List Sub) (t : Sub) (w : Walk) : Type 0 where
   pub pended : (i : ℕ) → In i w.pending → Marked w i
   pub done : (i : ℕ) → Marked w i → In i w.pending ⊎ Looked subs w i
 
-only : (n m : List ℕ) → In n (m ∷ []) → n ≡ m
-only n m (inl e) = e
-only n m (inr h) = absurd h
-
 -- at first t alone is marked
 pub begins : (subs found : List Sub) (t : Sub) (w : Walk) → IsDistinct same_text (names_of subs) → In t subs → In t found → length w.marks ≡ length subs → ((i : ℕ) → get_or w.marks i false ≡ false) → w.pending ≡ [] → IsWalk subs found t (marked_all subs (t.head.name ∷ []) w)
 begins subs found t w distinct i f h none empty =
@@ -44,9 +41,9 @@ begins subs found t w distinct i f h none empty =
       sound = λ j s m e.
           let from = fresh j m in
           let at = from.0 in
-          let here : place_in subs t.head.name ≡ Some j = ap (place_in subs) (sym (only at.0 t.head.name at.1)) ∙ at.2 in
-          let same : stands.0 ≡ j = some_same (sym place ∙ here) in
-          let is : s ≡ t = some_same (sym e ∙ ap (slice_get subs) (sym same) ∙ stands.1) in
+          let here : place_in subs t.head.name ≡ Some j = ap (place_in subs) (sym (in_one at.0 t.head.name at.1)) ∙ at.2 in
+          let same : stands.0 ≡ j = same_Some stands.0 j (sym place ∙ here) in
+          let is : s ≡ t = same_Some s t (sym e ∙ ap (slice_get subs) (sym same) ∙ stands.1) in
           subst (λ (u : Sub). In u found) (sym is) f;
       pended = λ j p. begins_pended w new j empty (spread.pended j p);
       done = λ j m. let from = fresh j m in inl from.1;
@@ -58,9 +55,6 @@ begins subs found t w distinct i f h none empty =
       begins_pended : (w new : Walk) (j : ℕ) → w.pending ≡ [] → In j w.pending ⊎ Marked new j → Marked new j
       begins_pended w new j e (inl p) = absurd (subst (λ (xs : List ℕ). In j xs) e p)
       begins_pended w new j e (inr m) = m
-
-      some_same : {A : Type 0} {x y : A} → Some x ≡ Some y → x ≡ y
-      some_same e = cc
 
 done_by : (subs : List Sub) (w r new : Walk) (i j : ℕ) → ((k : ℕ) → In k r.pending → In k new.pending) → ((k : ℕ) → Marked w k → Marked new k) → Looked subs new i → In j r.pending ⊎ In j (i ∷ []) → In j new.pending ⊎ Looked subs new j
 done_by subs w r new i j up kept here (inl p) = inl (up j p)

@@ -181,9 +181,13 @@ open_in d = option_map (λ (s : Sub). open_subckt s.line) d.current
 abbrev pub calls_in : Draft → Option Fault
 calls_in d = first_by_call (values_of d.subs) d.sites
 
+-- what refuses a draft behind all cards
+abbrev pub end_fault : Draft → Option Fault
+end_fault d = first_some (open_in d ∷ calls_in d ∷ [])
+
 -- the deck of a draft behind all cards, or the first refusal
 abbrev pub finished : List ℕ → Draft → Result Deck Fault
-finished title d = or_else (first_some (open_in d ∷ calls_in d ∷ [])) (deck_of title d)
+finished title d = or_else (end_fault d) (deck_of title d)
 
 -- the title of a file that has one
 abbrev pub title_in : Bool → List ℕ → List ℕ

@@ -6,4 +6,5 @@ pub mod Drafts
 pub mod Places
 pub mod Ranks
 pub mod Refusals
+pub mod Texts
 pub mod Walks

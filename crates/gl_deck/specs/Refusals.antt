@@ -34,6 +34,10 @@ fault_of faults.Memory = None
 abbrev pub Refuses : Option DeckFault → Option Fault → Type 0
 Refuses = answers.Refuses fault_of
 
+-- a refusal of the code is the one that there is, or want of memory
+abbrev pub IsFaultIn : Option Fault → DeckFault → Type 0
+IsFaultIn found fault = answers.IsFound (fault_of fault) found
+
 -- the value exactly where one is wanted, and it is that one; else the wanted refusal; want of memory may come in place of either
 abbrev pub Gives : {V : Type 0} → Result V DeckFault → Result V Fault → Type 0
 Gives = answers.Gives fault_of

@@ -1,7 +1,6 @@
-ghost use Rattle.std.specs.Prelude.{◌≡◌, [], ◌∷◌, IfOk};
-ghost use Rattle.gl_fault.specs.Refusals.{first_some};
-ghost use Rattle.gl_deck.specs.Drafts.{calls_in, deck_of, finished, open_in};
-ghost use Rattle.gl_deck.specs.Refusals.{Gives, Refuses};
+ghost use Rattle.std.specs.Prelude.{◌≡◌, None, IfErr, IfOk, OnOk};
+ghost use Rattle.gl_deck.specs.Drafts.{calls_in, deck_of, finished, open_in, end_fault};
+ghost use Rattle.gl_deck.specs.Refusals.{Gives, IsFaultIn, MustRefuse, Refuses};
 
 use crate::calls::first_call_fault;
 use crate::draft::Draft;
@@ -10,7 +9,7 @@ use crate::{Deck, DeckFault};
 use std::alloc::{AllocError, Global};
 
 impl Draft {
-    /// A subcircuit is still open.
+    /// A subcircuit is still open. It takes no memory, and never tells of want of it.
     fn left_open(&self) -> Option<DeckFault>
         ensures left_open { Refuses result (open_in self.now) }
     {
@@ -27,15 +26,27 @@ impl Draft {
         first_call_fault(alloc, &self.subs, &self.sites)
     }
 
-    /// Why the cards are no deck: a subcircuit that is open, or a call that is refused.
-    fn unfinished(&self, alloc: Global) -> Result<Option<DeckFault>, AllocError>
-        ensures first { IfOk result
-            (λ fault. Refuses fault (first_some (open_in self.now ∷ calls_in self.now ∷ []))) }
+    /// Refuses the first X card whose call is refused.
+    fn refuse_calls(&self, alloc: Global) -> Result<(), DeckFault>
+        ensures fine { OnOk result (calls_in self.now ≡ None) }
+        ensures first { IfErr result (IsFaultIn (calls_in self.now)) }
     {
-        if let Some(fault) = self.left_open() {
-            return Ok(Some(fault));
+        match self.bad_call(alloc)? {
+            Some(fault) => Err(fault),
+            None => Ok(()),
         }
-        self.bad_call(alloc)
+    }
+
+    /// Refuses a subcircuit that is open, or a call that is refused. The first takes no memory, and is told where it is.
+    fn refuse_unfinished(&self, alloc: Global) -> Result<(), DeckFault>
+        ensures fine { OnOk result (end_fault self.now ≡ None) }
+        ensures first { IfErr result (IsFaultIn (end_fault self.now)) }
+        ensures left_open { MustRefuse result (open_in self.now) }
+    {
+        match self.left_open() {
+            Some(fault) => Err(fault),
+            None => self.refuse_calls(alloc),
+        }
     }
 
     /// The deck of all cards.
@@ -53,13 +64,15 @@ impl Draft {
         })
     }
 
-    /// The deck of all cards, or why they are none.
+    /// The deck of all cards, or why they are none. A subcircuit that is still open is refused without memory, so that no want
+    /// of it is told in its place.
     pub fn finish(self, alloc: Global, title: Vec<u8>) -> Result<Deck, DeckFault>
         ensures finished { Gives result (finished title.items self) }
+        ensures left_open { MustRefuse result (open_in self) }
     {
-        if let Some(fault) = self.unfinished(alloc)? {
-            return Err(fault);
+        match self.refuse_unfinished(alloc) {
+            Ok(()) => Ok(self.into_deck(alloc, title)?),
+            Err(fault) => Err(fault),
         }
-        Ok(self.into_deck(alloc, title)?)
     }
 }

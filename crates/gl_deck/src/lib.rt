@@ -16,12 +16,11 @@ mod ranks;
 mod reach;
 mod read;
 mod refused;
+mod said;
 mod site;
 mod step;
 mod sub;
 mod subs;
-#[cfg(test)]
-mod tests;
 
 pub use body::Body;
 pub use deck::Deck;
@@ -29,6 +28,7 @@ pub use fault::DeckFault;
 pub use gl_card::{CallCard, Card, DevCard, Head, Letter, Memory, ModelCard, Name, Tail};
 pub use laws::{lines_make_the_deck, tables_have_ranks};
 pub use places::{called_place, called_places};
-pub use print::{put_all_passed, put_ends, put_globals, put_head, put_models, put_text};
+pub use print::{put, put_all_passed, put_ends, put_globals, put_head, put_models, put_text};
+pub use said::deck_parts;
 pub use sub::Sub;
 pub use subs::Subs;

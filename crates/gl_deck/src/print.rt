@@ -7,7 +7,7 @@ ghost use Rattle.gl_deck.specs.Bodies.{body_value, bodies_value};
 use crate::{Body, Deck, Head, Memory, ModelCard, Name, Sub};
 
 /// Appends bytes.
-fn put(out: &mut Vec<u8>, bytes: &[u8]) -> Result<(), Memory>
+pub fn put(out: &mut Vec<u8>, bytes: &[u8]) -> Result<(), Memory>
     ensures ok { OnOk result (out.new.items ≡ out.old.items ++ bytes.now) }
     ensures front { take (length out.old.items) out.new.items ≡ out.old.items }
 {

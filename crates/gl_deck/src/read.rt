@@ -40,7 +40,7 @@ fn read_lines(alloc: Global, title: &[u8], bytes: &[u8], first_line: u32) -> Res
 
 /// The title of a file and what is behind it, or the refusal of a title that is too long. It takes no memory, and never tells
 /// of want of it.
-fn judged_title(bytes: &[u8]) -> Result<(&[u8], &[u8]), DeckFault>
+fn title_and_cards(bytes: &[u8]) -> Result<(&[u8], &[u8]), DeckFault>
     requires size { length bytes.now ≤ FILE }
     ensures title { IfOk result (λ parts. parts.0.now ≡ title_of bytes.now) }
     ensures after { IfOk result (λ parts. parts.1.now ≡ after_title bytes.now) }
@@ -60,7 +60,7 @@ fn read_titled(alloc: Global, bytes: &[u8]) -> Result<Deck, DeckFault>
     ensures reads { Gives result (deck_by_draft true bytes.now) }
     ensures long_title { MustRefuse result (long_title (title_of bytes.now)) }
 {
-    match judged_title(bytes) {
+    match title_and_cards(bytes) {
         Ok((title, rest)) => read_lines(alloc, title, rest, 2),
         Err(fault) => Err(fault),
     }

@@ -5,6 +5,7 @@ use Rattle.std.specs.List.{list_any}
 use Rattle.std.specs.Map.{lookup}
 use Rattle.std.specs.Cmp.Lexicographic.{nat_list_eq_equiv}
 use Rattle.std.proofs.lemmas.List.Folds.{list_any-append}
+use Rattle.std.proofs.lemmas.Option.{same_Some}
 use Rattle.indexmap.specs.IndexMap.{insert_entry}
 use Rattle.indexmap.specs.IndexSet.{insert_key}
 use Rattle.gl_lists.proofs.Bools.{and_not_itself}
@@ -15,7 +16,7 @@ use Rattle.std.proofs.lemmas.Bool.{or_parts}
 use Rattle.gl_text.specs.Decks.{is_in, has_twice, once}
 use Rattle.gl_text.specs.Flattening.{Net, Bearer, device, net, net_name, top_net, bearer_name, same_path, clash, first_clash}
 use Rattle.gl_printed.specs.ReadDecks.{AllDiffer}
-use Rattle.gl_deck.proofs.CallLaws.{exact}
+use Rattle.gl_text.proofs.Names.{exact}
 use Rattle.gl_flat.proofs.DotLaws.{no_more, or_true}
 use Rattle.gl_flat.proofs.SoundLaws.{tops_once}
 use Rattle.gl_flat.specs.SeenNames.{Seen, nothing_seen, has_dot, plain_names, same_net, is_below, takes_top_name, with_net, with_device, seen_with, seen_all}
@@ -103,11 +104,8 @@ new_by s before m k true h none e =
     turned (not (same_net k m)) (takes_top_name s k) ∙ ap (λ c. c || (not (same_net k m) || false)) (sym (ap (λ d. d || takes_top_name s k) there) ∙ h.nets k)
 new_by s before m k false h none e = h.nets k ∙ sym (no_more (list_any (clash (net k)) before))
 
-some_same : (m k : Net) → Some m ≡ Some k → m ≡ k
-some_same m k e = cc
-
 own_by : (s : Seen) (before : List Bearer) (m k : Net) (b : Bool) → Knows s before → takes_top_name s m ≡ false → cond b (Some m) (lookup (same_text (net_name k)) s.nets) ≡ Some k → takes_top_name s k ≡ false
-own_by s before m k true h t e = ap (takes_top_name s) (sym (some_same m k e)) ∙ t
+own_by s before m k true h t e = ap (takes_top_name s) (sym (same_Some m k e)) ∙ t
 own_by s before m k false h t e = h.own k e
 
 knows_new : (s : Seen) (before : List Bearer) (m : Net) → Knows s before → lookup (same_text (net_name m)) s.nets ≡ None → takes_top_name s m ≡ false → Knows (record s { nets = insert_entry same_text s.nets (net_name m) m }) (before ++ net m ∷ [])

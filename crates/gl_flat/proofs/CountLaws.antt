@@ -3,6 +3,7 @@ use Rattle.std.proofs.Common.{◌≡◌, ◌+◌, ℕ, zero, suc, List, [], ◌�
 use Rattle.gl_text.specs.LogicalLines.{same_text}
 use Rattle.gl_text.specs.Cards.{Call}
 use Rattle.gl_text.specs.Decks.{Body, dev_at, call_at, Sub, find_sub}
+use Rattle.gl_size.proofs.CountLaws.{plus}
 use Rattle.gl_text.specs.Flattening.{FlatDevice, Place, inside, devices_of, flat_devices, size_of, sizes, one_device}
 
 abbrev Inner : Type 0
@@ -46,13 +47,10 @@ call_count : (rails : List (List ℕ)) (subs : List Sub) (inner : Inner) (count 
 call_count rails subs inner count place line c h None e = rw e refl
 call_count rails subs inner count place line c h (Some t) e = rw e (h (inside rails place c t) t.cards)
 
-none_more : (n : ℕ) → n ≡ 0 + n
-none_more n = omega arith
-
 card_count : (rails : List (List ℕ)) (subs : List Sub) (inner : Inner) (count : List Body → ℕ) (below : List (List ℕ × ℕ)) → Counts inner count → Agrees below subs count
     → (place : Place) (b : Body) → length (devices_of rails subs inner place b) ≡ size_of one_device below b
 card_count rails subs inner count below h k place (dev_at line d) = refl
-card_count rails subs inner count below h k place (call_at line c) = call_count rails subs inner count place line c h (find_sub subs c.sub) refl ∙ sym (k c.sub) ∙ none_more (counted_below below c.sub)
+card_count rails subs inner count below h k place (call_at line c) = call_count rails subs inner count place line c h (find_sub subs c.sub) refl ∙ sym (k c.sub) ∙ plus (counted_below below c.sub)
 
 sum_more : (f : Body → List FlatDevice) (own : Body → ℕ) → ((b : Body) → length (f b) ≡ own b) → (a : ℕ) (cs : List Body) → a + length (flat_map f cs) ≡ fold (λ n b. n + own b) a cs
 sum_more f own h a [] = omega arith
@@ -61,7 +59,7 @@ sum_more f own h a (b ∷ cs) =
     e ∙ sum_more f own h (a + own b) cs
 
 sum_all : (f : Body → List FlatDevice) (own : Body → ℕ) → ((b : Body) → length (f b) ≡ own b) → (cs : List Body) → length (flat_map f cs) ≡ sum_by own cs
-sum_all f own h cs = none_more (length (flat_map f cs)) ∙ sum_more f own h 0 cs
+sum_all f own h cs = plus (length (flat_map f cs)) ∙ sum_more f own h 0 cs
 
 -- as many devices as the count says, through any number of X cards
 pub devices_count : (rails : List (List ℕ)) (subs : List Sub) (depth : ℕ) (place : Place) (cs : List Body) → length (flat_devices rails subs depth place cs) ≡ sum_by (size_of one_device (sizes one_device subs depth)) cs

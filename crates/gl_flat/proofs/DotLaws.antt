@@ -8,7 +8,7 @@ use Rattle.gl_fault.proofs.FirstLaws.{only}
 use Rattle.gl_text.specs.LogicalLines.{Fault, name_clash, same_text}
 use Rattle.gl_fault.specs.Refusals.{first_some, when}
 use Rattle.gl_text.specs.Flattening.{Net, Bearer, device, net, net_name, path_text, same_path, clash, first_clash}
-use Rattle.gl_deck.proofs.CallLaws.{exact}
+use Rattle.gl_text.proofs.Names.{exact}
 use Rattle.gl_flat.specs.SeenNames.{has_dot, is_below, may_clash, plain_names}
 
 pub or_true : (a : Bool) → (a || true) ≡ true

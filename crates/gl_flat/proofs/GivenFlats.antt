@@ -1,5 +1,6 @@
 -- What is known where a flat deck is given: it has few devices, and no names clash.
 use Rattle.std.proofs.Common.{◌≡◌, ◌≤◌, ◌+◌, ℕ, List, [], ◌∷◌, ◌++◌, length, map, ltb, false, not, Option, None, Ok, refl, sym, ap, ◌∙◌, subst, flat_map, codes, sum_by, ltb-false}
+use Rattle.gl_lists.proofs.Zips.{map_map}
 use Rattle.gl_text.specs.LogicalLines.{NAME, too_deep, too_many_cards, too_many_devices, long_flat_name, long_text}
 use Rattle.gl_fault.specs.Refusals.{first_some, when, or_else, ◌>>=◌}
 use Rattle.gl_text.specs.Cards.{Head}
@@ -19,10 +20,6 @@ pub record IsGiven (flat : Flat) : Type 0 where
   pub few : length flat.devices ≤ DEVICES
   pub clash : NoClash flat
 
-twice : (ns : List (List ℕ)) → map net (map top_net ns) ≡ map (λ n. net (top_net n)) ns
-twice [] = refl
-twice (n ∷ ns) = ap (λ xs. net (top_net n) ∷ xs) (twice ns)
-
 finished : (d : Deck) (rails : List (List ℕ)) (head : Option Head) (devices : List FlatDevice) (flat : Flat) → finish_flat d.title rails d.models d.passed head devices ≡ Ok flat
     → (flat_with d rails head devices ≡ flat) × (first_clash (map net (map top_net (codes "0" ∷ rails ++ top_ports head))) (flat_map bearers devices) ≡ None)
 unfolding finish_flat
@@ -37,7 +34,7 @@ finished d rails head devices flat h =
     let c = bind_ok (or_else lengths a.0) (λ y. or_else clashes y) flat a.2 in
     let e = or_else_ok lengths a.0 c.0 c.1 in
     let g = or_else_ok clashes c.0 flat c.2 in
-    (b.1 ∙ e.1 ∙ g.1, ap (λ ns. first_clash ns names) (twice (codes "0" ∷ rails ++ top_ports head)) ∙ g.0)
+    (b.1 ∙ e.1 ∙ g.1, ap (λ ns. first_clash ns names) (map_map net top_net (codes "0" ∷ rails ++ top_ports head)) ∙ g.0)
 
 -- as few devices as are counted, through any number of X cards
 few_devices : (depth : ℕ) (rails : List (List ℕ)) (subs : List Sub) (cs : List Body) → first_some (faults_flat depth subs cs) ≡ None → length (flat_devices rails subs depth top_place cs) ≤ DEVICES

@@ -7,7 +7,7 @@ use Rattle.gl_text.specs.LogicalLines.{name_clash, same_text}
 use Rattle.gl_fault.specs.Refusals.{when}
 use Rattle.gl_text.specs.Flattening.{Net, FlatDevice, Flat, Bearer, net, net_name, top_net, top_ports, flat_card, bearers, bearer_name, clash, first_clash}
 use Rattle.gl_fault.proofs.FirstLaws.{none_first, when_none}
-use Rattle.gl_deck.proofs.CallLaws.{itself}
+use Rattle.gl_text.proofs.Names.{itself}
 use Rattle.gl_deck.proofs.Members.{In, in_left, in_right, in_map, in_flat, from_append, from_flat, from_map}
 use Rattle.gl_flat.specs.FlatNets.{all_nets, device_nets}
 use Rattle.gl_base.specs.BaseCircuit.{nets_of, net_number}

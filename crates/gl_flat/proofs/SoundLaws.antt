@@ -8,7 +8,7 @@ use Rattle.gl_text.specs.LogicalLines.{same_text}
 use Rattle.gl_text.specs.Decks.{Sub, has_twice, is_in, once}
 use Rattle.gl_printed.specs.ReadDecks.{AllDiffer, IsReadSub}
 use Rattle.gl_printed.proofs.Each.{each_to, filter_all}
-use Rattle.gl_deck.proofs.CallLaws.{exact}
+use Rattle.gl_text.proofs.Names.{exact}
 use Rattle.gl_flat.specs.Ways.{PortsDiffer}
 
 others : (n : List ℕ) (ns : List (List ℕ)) → is_in n ns ≡ false → AllByRecursion (λ m. not (same_text n m) ≡ true) ns

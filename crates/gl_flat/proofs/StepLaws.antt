@@ -13,7 +13,7 @@ use Rattle.gl_text.specs.Flattening.{DEPTH, TEXT, FlatDevice, Flat, flat_devices
 use Rattle.gl_flat.specs.declared.fault.FlatFault.{FlatFault}
 use Rattle.gl_flat.specs.Lengths.{after}
 use Rattle.gl_flat.specs.Refusals.{GivesOf, Refuses, fault_of}
-use Rattle.gl_flat.specs.Steps.{AreShort, checked, judged, length_fault, stepwise}
+use Rattle.gl_flat.specs.Steps.{AreShort, flat_unless, flat_or_fault, length_fault, stepwise}
 
 -- ---- the text's length
 
@@ -42,25 +42,25 @@ short f p =
     let none = none_first (text_fault f) (long_in (flat_map bearers f.devices) ∷ []) (none_is fault_of (length_fault f) p) in
     record { text = none.0; names = sym (only (long_in (flat_map bearers f.devices))) ∙ none.1 }
 
-checked_by : (f : Flat) (a b c : Option Fault) → (or_else (first_some (a ∷ b ∷ [])) f >>= λ g. or_else c g) ≡ checked f a b c
-checked_by f None None c = refl
-checked_by f None (Some x) c = refl
-checked_by f (Some x) b c = refl
+unless_by : (f : Flat) (a b c : Option Fault) → (or_else (first_some (a ∷ b ∷ [])) f >>= λ g. or_else c g) ≡ flat_unless f a b c
+unless_by f None None c = refl
+unless_by f None (Some x) c = refl
+unless_by f (Some x) b c = refl
 
 -- a refusal by length is one of the whole
-pub length_refuses : (x : FlatFault) (f : Flat) (c : Option Fault) → Refuses (Some x) (length_fault f) → IsRefusal (fault_of x) (checked f (text_fault f) (long_in (flat_map bearers f.devices)) c)
+pub length_refuses : (x : FlatFault) (f : Flat) (c : Option Fault) → Refuses (Some x) (length_fault f) → IsRefusal (fault_of x) (flat_unless f (text_fault f) (long_in (flat_map bearers f.devices)) c)
 length_refuses x f c p =
-    subst (λ (w : Result Flat Fault). IsRefusal (fault_of x) w) (checked_by f (text_fault f) (long_in (flat_map bearers f.devices)) c)
+    subst (λ (w : Result Flat Fault). IsRefusal (fault_of x) w) (unless_by f (text_fault f) (long_in (flat_map bearers f.devices)) c)
     (through (fault_of x) (or_else (length_fault f) f) (λ g. or_else c g) (given fault_of x (length_fault f) f p))
 
-pub third_refuses : (o : Option Fault) (f : Flat) (a b c : Option Fault) → a ≡ None → b ≡ None → IsFound o c → IsRefusal o (checked f a b c)
-third_refuses o f a b c e g h = subst (λ v. IsRefusal o (checked f v b c)) (sym e) (subst (λ v. IsRefusal o (checked f None v c)) (sym g) (refused_by o c f h))
+pub third_refuses : (o : Option Fault) (f : Flat) (a b c : Option Fault) → a ≡ None → b ≡ None → IsFound o c → IsRefusal o (flat_unless f a b c)
+third_refuses o f a b c e g h = subst (λ v. IsRefusal o (flat_unless f v b c)) (sym e) (subst (λ v. IsRefusal o (flat_unless f None v c)) (sym g) (refused_by o c f h))
 
-pub none_refuses : (f : Flat) (a b c : Option Fault) → a ≡ None → b ≡ None → c ≡ None → checked f a b c ≡ Ok f
-none_refuses f a b c e g h = ap (λ v. checked f v b c) e ∙ ap (λ v. checked f None v c) g ∙ ap (λ v. checked f None None v) h
+pub none_refuses : (f : Flat) (a b c : Option Fault) → a ≡ None → b ≡ None → c ≡ None → flat_unless f a b c ≡ Ok f
+none_refuses f a b c e g h = ap (λ v. flat_unless f v b c) e ∙ ap (λ v. flat_unless f None v c) g ∙ ap (λ v. flat_unless f None None v) h
 
 -- a flat deck that only a clash can refuse
-pub clash_decides : {V : Type 0} (M : V → Flat → Type 0) (r : Result V FlatFault) (f : Flat) (a b c : Option Fault) → a ≡ None → b ≡ None → OnOk r (c ≡ None) → IfOk r (λ v. M v f) → IfErr r (λ e. IsFound (fault_of e) c) → GivesOf M r (checked f a b c)
+pub clash_decides : {V : Type 0} (M : V → Flat → Type 0) (r : Result V FlatFault) (f : Flat) (a b c : Option Fault) → a ≡ None → b ≡ None → OnOk r (c ≡ None) → IfOk r (λ v. M v f) → IfErr r (λ e. IsFound (fault_of e) c) → GivesOf M r (flat_unless f a b c)
 clash_decides M (Ok v) f a b c e g h w k = (f, none_refuses f a b c e g h, w)
 clash_decides M (Err x) f a b c e g h w k = third_refuses (fault_of x) f a b c e g k
 
@@ -78,22 +78,22 @@ steps_are deck rails top = refl
 
 -- nothing is chosen
 pub choice_refuses : (o : Option Fault) (deck : Deck) (rails : List (List ℕ)) (top : Option (List ℕ)) → IsRefusal o (chosen deck top) → IsRefusal o (flatten deck rails top)
-choice_refuses o deck rails top h = through o (chosen deck top) (λ c. or_else (excess_in deck.subs c.1) c >>= λ c. judged deck rails c.0 (flat_devices rails deck.subs DEPTH top_place c.1)) h
+choice_refuses o deck rails top h = through o (chosen deck top) (λ c. or_else (excess_in deck.subs c.1) c >>= λ c. flat_or_fault deck rails c.0 (flat_devices rails deck.subs DEPTH top_place c.1)) h
 
 -- what was chosen exceeds
 chosen_is : (deck : Deck) (rails : List (List ℕ)) (top : Option (List ℕ)) (head : Option Head) (cards : List Body) → chosen deck top ≡ Ok (head, cards)
-    → (or_else (excess_in deck.subs cards) (picked head cards) >>= λ c. judged deck rails c.0 (flat_devices rails deck.subs DEPTH top_place c.1)) ≡ flatten deck rails top
-chosen_is deck rails top head cards e = sym (ap (λ v. v >>= λ c. or_else (excess_in deck.subs c.1) c >>= λ c. judged deck rails c.0 (flat_devices rails deck.subs DEPTH top_place c.1)) e)
+    → (or_else (excess_in deck.subs cards) (picked head cards) >>= λ c. flat_or_fault deck rails c.0 (flat_devices rails deck.subs DEPTH top_place c.1)) ≡ flatten deck rails top
+chosen_is deck rails top head cards e = sym (ap (λ v. v >>= λ c. or_else (excess_in deck.subs c.1) c >>= λ c. flat_or_fault deck rails c.0 (flat_devices rails deck.subs DEPTH top_place c.1)) e)
 
 pub excess_refuses : (o : Option Fault) (deck : Deck) (rails : List (List ℕ)) (top : Option (List ℕ)) (head : Option Head) (cards : List Body) → chosen deck top ≡ Ok (head, cards) → IsFound o (excess_in deck.subs cards) → IsRefusal o (flatten deck rails top)
 excess_refuses o deck rails top head cards e h = subst (λ v. IsRefusal o v) (chosen_is deck rails top head cards e)
-    (through o (or_else (excess_in deck.subs cards) (picked head cards)) (λ c. judged deck rails c.0 (flat_devices rails deck.subs DEPTH top_place c.1)) (refused_by o (excess_in deck.subs cards) (picked head cards) h))
+    (through o (or_else (excess_in deck.subs cards) (picked head cards)) (λ c. flat_or_fault deck rails c.0 (flat_devices rails deck.subs DEPTH top_place c.1)) (refused_by o (excess_in deck.subs cards) (picked head cards) h))
 
--- or it is judged
+-- or what is made of it
 pub judged_is : (deck : Deck) (rails : List (List ℕ)) (top : Option (List ℕ)) (head : Option Head) (cards : List Body) (devices : List FlatDevice) → chosen deck top ≡ Ok (head, cards) → excess_in deck.subs cards ≡ None
-    → devices ≡ flat_devices rails deck.subs DEPTH top_place cards → judged deck rails head devices ≡ flatten deck rails top
+    → devices ≡ flat_devices rails deck.subs DEPTH top_place cards → flat_or_fault deck rails head devices ≡ flatten deck rails top
 judged_is deck rails top head cards devices e f g =
-    ap (judged deck rails head) g ∙ sym (ap (λ v. or_else v (picked head cards) >>= λ c. judged deck rails c.0 (flat_devices rails deck.subs DEPTH top_place c.1)) f) ∙ chosen_is deck rails top head cards e
+    ap (flat_or_fault deck rails head) g ∙ sym (ap (λ v. or_else v (picked head cards) >>= λ c. flat_or_fault deck rails c.0 (flat_devices rails deck.subs DEPTH top_place c.1)) f) ∙ chosen_is deck rails top head cards e
 
 -- the devices of the same cards, by the same subcircuits and rails
 pub same_devices : (n : ℕ) (k rails : List (List ℕ)) (s t : List Sub) (cards : List Body) → k ≡ rails → s ≡ t → flat_devices k s n top_place cards ≡ flat_devices rails t n top_place cards

@@ -36,16 +36,16 @@ abbrev pub flat_by : Frame → List FlatDevice → Flat
 flat_by f devices = flat_with f.deck.now f.rails.now (option_copied f.head) devices
 
 -- a flat deck, or the first of three refusals
-abbrev pub checked : Flat → Option Fault → Option Fault → Option Fault → Result Flat Fault
-checked flat a b c = or_else a flat >>= λ f. or_else b f >>= λ g. or_else c g
+abbrev pub flat_unless : Flat → Option Fault → Option Fault → Option Fault → Result Flat Fault
+flat_unless flat a b c = or_else a flat >>= λ f. or_else b f >>= λ g. or_else c g
 
 -- the flat deck of devices, or its first refusal
-abbrev pub judged : Deck → List (List ℕ) → Option Head → List FlatDevice → Result Flat Fault
-judged deck rails head devices = checked (flat_with deck rails head devices) (text_fault (flat_with deck rails head devices)) (long_in (flat_map bearers devices)) (clash_in rails (top_ports head) devices)
+abbrev pub flat_or_fault : Deck → List (List ℕ) → Option Head → List FlatDevice → Result Flat Fault
+flat_or_fault deck rails head devices = flat_unless (flat_with deck rails head devices) (text_fault (flat_with deck rails head devices)) (long_in (flat_map bearers devices)) (clash_in rails (top_ports head) devices)
 
 -- around what is no device
-abbrev pub judged_by : Frame → List FlatDevice → Result Flat Fault
-judged_by f devices = judged f.deck.now f.rails.now (option_copied f.head) devices
+abbrev pub flat_or_fault_by : Frame → List FlatDevice → Result Flat Fault
+flat_or_fault_by f devices = flat_or_fault f.deck.now f.rails.now (option_copied f.head) devices
 
 -- a text that is too long, else the first flat name that is
 abbrev pub length_fault : Flat → Option Fault
@@ -77,9 +77,9 @@ abbrev pub devices_in : Scene → List body.Body → List FlatDevice
 devices_in s cards = devices_against s (bodies_value cards)
 
 -- the flat deck of cards of the deck that is flattened, or its first refusal
-abbrev pub judged_cards : Frame → List Body → Result Flat Fault
-judged_cards f cards = judged_by f (devices_by f cards)
+abbrev pub flat_or_fault_of_cards : Frame → List Body → Result Flat Fault
+flat_or_fault_of_cards f cards = flat_or_fault_by f (devices_by f cards)
 
 -- flattening
 abbrev pub stepwise : Deck → List (List ℕ) → Option (List ℕ) → Result Flat Fault
-stepwise deck rails top = chosen deck top >>= λ c. or_else (excess_in deck.subs c.1) c >>= λ c. judged deck rails c.0 (flat_devices rails deck.subs DEPTH top_place c.1)
+stepwise deck rails top = chosen deck top >>= λ c. or_else (excess_in deck.subs c.1) c >>= λ c. flat_or_fault deck rails c.0 (flat_devices rails deck.subs DEPTH top_place c.1)

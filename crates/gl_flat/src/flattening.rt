@@ -14,7 +14,7 @@ ghost use Rattle.gl_base.specs.BaseCircuit.{nets_of};
 ghost use Rattle.gl_flat.specs.Kept.{kept_of};
 ghost use Rattle.gl_flat.specs.Refusals.{Gives, GivesText, IsFaultIn, Refuses, RefusesFlat, fault_of};
 ghost use Rattle.gl_flat.specs.SeenNames.{PlainDiffer};
-ghost use Rattle.gl_flat.specs.Steps.{IsChoice, devices_in, flat_by, judged_by, judged_cards, length_fault};
+ghost use Rattle.gl_flat.specs.Steps.{IsChoice, devices_in, flat_by, flat_or_fault_by, flat_or_fault_of_cards, length_fault};
 ghost use Rattle.gl_flat.specs.TopNames.{clash_with_top};
 ghost use Rattle.gl_flat.specs.Ways.{IsScene};
 
@@ -175,7 +175,7 @@ fn text_of<'a>(
 }
 
 /// The flat deck of devices, or its first refusal.
-fn judged<'a>(
+fn flat_of_devices<'a>(
     alloc: Global,
     scene: &Scene<'a>,
     frame: &Frame<'_>,
@@ -184,7 +184,7 @@ fn judged<'a>(
     requires rails { scene.now.rails.now.keys ≡ once frame.now.rails.now }
     requires own { scene.now.own.now.keys ≡ once (top_ports (option_copied frame.now.head)) }
     requires plain { PlainDiffer devices.now }
-    ensures gives { Gives result (judged_by frame.now devices.now) }
+    ensures gives { Gives result (flat_or_fault_by frame.now devices.now) }
 {
     if let Some(fault) = length_refusal(frame, devices) {
         return Err(fault);
@@ -193,7 +193,7 @@ fn judged<'a>(
 }
 
 /// The flat text of devices, or the first refusal.
-fn judged_text<'a>(
+fn text_of_devices<'a>(
     alloc: Global,
     scene: &Scene<'a>,
     frame: &Frame<'_>,
@@ -202,7 +202,7 @@ fn judged_text<'a>(
     requires rails { scene.now.rails.now.keys ≡ once frame.now.rails.now }
     requires own { scene.now.own.now.keys ≡ once (top_ports (option_copied frame.now.head)) }
     requires plain { PlainDiffer devices.now }
-    ensures gives { GivesText result (judged_by frame.now devices.now) }
+    ensures gives { GivesText result (flat_or_fault_by frame.now devices.now) }
 {
     if let Some(fault) = length_refusal(frame, devices) {
         return Err(fault);
@@ -235,10 +235,10 @@ fn flat_of_cards<'a>(
     requires rails { scene.now.rails.now.keys ≡ once frame.now.rails.now }
     requires own { scene.now.own.now.keys ≡ once (top_ports (option_copied frame.now.head)) }
     requires names { AllDiffer (map body_name (bodies_value cards.now)) }
-    ensures gives { Gives result (judged_by frame.now (devices_in scene.now cards.now)) }
+    ensures gives { Gives result (flat_or_fault_by frame.now (devices_in scene.now cards.now)) }
 {
     let devices = expanded(alloc, scene, cards)?;
-    judged(alloc, scene, frame, &devices)
+    flat_of_devices(alloc, scene, frame, &devices)
 }
 
 /// The flat text of cards, or the first refusal.
@@ -252,10 +252,10 @@ fn text_of_cards<'a>(
     requires rails { scene.now.rails.now.keys ≡ once frame.now.rails.now }
     requires own { scene.now.own.now.keys ≡ once (top_ports (option_copied frame.now.head)) }
     requires names { AllDiffer (map body_name (bodies_value cards.now)) }
-    ensures gives { GivesText result (judged_by frame.now (devices_in scene.now cards.now)) }
+    ensures gives { GivesText result (flat_or_fault_by frame.now (devices_in scene.now cards.now)) }
 {
     let devices = expanded(alloc, scene, cards)?;
-    judged_text(alloc, scene, frame, &devices)
+    text_of_devices(alloc, scene, frame, &devices)
 }
 
 /// The flat deck of what is chosen, or its first refusal.
@@ -263,7 +263,7 @@ fn flat_of_chosen(alloc: Global, frame: &Frame<'_>, cards: &[Body]) -> Result<Fl
     requires sound { IsReadDeck frame.now.deck.now }
     requires rails { AreRails frame.now.rails.now }
     requires names { AllDiffer (map body_name (bodies_value cards.now)) }
-    ensures gives { Gives result (judged_cards frame.now (bodies_value cards.now)) }
+    ensures gives { Gives result (flat_or_fault_of_cards frame.now (bodies_value cards.now)) }
 {
     let subs = frame.deck.subs();
     let tables = Tables::of(alloc, subs, frame.rails, ports_of(frame.head))?;
@@ -276,7 +276,7 @@ fn text_of_chosen(alloc: Global, frame: &Frame<'_>, cards: &[Body]) -> Result<Ve
     requires sound { IsReadDeck frame.now.deck.now }
     requires rails { AreRails frame.now.rails.now }
     requires names { AllDiffer (map body_name (bodies_value cards.now)) }
-    ensures gives { GivesText result (judged_cards frame.now (bodies_value cards.now)) }
+    ensures gives { GivesText result (flat_or_fault_of_cards frame.now (bodies_value cards.now)) }
 {
     let subs = frame.deck.subs();
     let tables = Tables::of(alloc, subs, frame.rails, ports_of(frame.head))?;

@@ -21,6 +21,7 @@ mod naming;
 mod net;
 mod number;
 mod print;
+mod said;
 mod same;
 mod scene;
 mod seen;
@@ -38,3 +39,4 @@ pub use gl_deck::{
 };
 pub use laws::{flat_decks_are_bounded, flat_names_are_one_to_one, plain_decks_stay};
 pub use names::Names;
+pub use said::flat_parts;

@@ -37,7 +37,7 @@ impl<'a> Net<'a> {
     }
 
     /// It stands behind X cards.
-    fn is_below(&self) -> bool
+    fn has_path(&self) -> bool
         ensures below { result ≡ seen.is_below self.now.path }
     {
         !self.path.is_empty()
@@ -47,6 +47,6 @@ impl<'a> Net<'a> {
     pub fn has_dot(&self) -> bool
         ensures dot { result ≡ seen.has_dot (flat.net_name self.now) }
     {
-        self.is_below() || has_dot(self.name.as_bytes())
+        self.has_path() || has_dot(self.name.as_bytes())
     }
 }

@@ -10,16 +10,7 @@ ghost use Rattle.gl_flat.specs.Kept.{device_line, device_lines, numbers_text};
 ghost use Rattle.gl_flat.specs.Lines.{model_text};
 
 use crate::{Flat, Head, KeptDevice, Memory, Name};
-use gl_deck::{put_all_passed, put_ends, put_globals, put_head, put_models, put_text};
-
-/// Appends bytes.
-fn put(out: &mut Vec<u8>, bytes: &[u8]) -> Result<(), Memory>
-    ensures ok { OnOk result (out.new.items ≡ out.old.items ++ bytes.now) }
-    ensures front { take (length out.old.items) out.new.items ≡ out.old.items }
-{
-    out.extend_from_slice(bytes)?;
-    Ok(())
-}
+use gl_deck::{put, put_all_passed, put_ends, put_globals, put_head, put_models, put_text};
 
 /// The name of a net, by its number.
 fn net_name<'a>(nets: &'a [Name], number: u32) -> &'a [u8]

@@ -2,7 +2,7 @@ ghost use Rattle.std.specs.Prelude.{◌≡◌, ◌∷◌, ◌<◌, ◌^◌, [], 
 ghost use Rattle.gl_text.specs.Decks.{once};
 ghost use Rattle.gl_text.specs.Flattening.{bearers, device, net, net_name};
 ghost use Rattle.gl_flat.specs.Refusals.{IsFaultOf};
-ghost use Rattle.gl_flat.specs.SeenNames.{bearers_of, own, net_names, nothing_seen, number_in, seen_risks, seen_one, takes_top_name as is_taken_from_top, top_bearers, with_device};
+ghost use Rattle.gl_flat.specs.SeenNames.{bearers_of, own, net_names, nothing_seen, number_in, seen_risks, seen_one, takes_top_name, top_bearers, with_device};
 ghost use Rattle.gl_flat.specs.TopNames.{top_names};
 
 use crate::copy::name_copy;
@@ -100,9 +100,9 @@ impl<'a> Seen<'a> {
     }
 
     /// The net is none of the top, and its flat name is that of one.
-    fn takes_top_name(&self, added: &Net<'a>, name: &Name) -> bool
+    fn has_top_name(&self, added: &Net<'a>, name: &Name) -> bool
         requires name { name.now ≡ net_name added.now }
-        ensures takes { result ≡ is_taken_from_top self.now added.now }
+        ensures takes { result ≡ takes_top_name self.now added.now }
     {
         !added.path.is_empty() && is_top(&self.scene, name)
     }
@@ -123,7 +123,7 @@ impl<'a> Seen<'a> {
                 name: name.into_name(alloc)?,
             });
         }
-        if self.takes_top_name(added, name.as_name()) {
+        if self.has_top_name(added, name.as_name()) {
             return Err(FlatFault::NameClash {
                 name: name.into_name(alloc)?,
             });

@@ -18,8 +18,6 @@ mod squeeze;
 mod state;
 mod steps;
 mod tail;
-#[cfg(test)]
-mod tests;
 mod trim;
 
 pub use bytes::{fold, is_blank, is_separator, is_word};

@@ -1,19 +1,26 @@
 //! Parts of a message.
-ghost use Rattle.std.specs.Prelude.{◌≡◌, [], codes};
-ghost use Rattle.gl_job.specs.Texts.{part_text, parts_text};
-ghost use Rattle.gl_said.specs.Texts.{numbered, named};
+ghost use Rattle.std.specs.Prelude.{◌≡◌, ◌++◌, [], codes};
+ghost use Rattle.gl_said.specs.Texts.{part_text, parts_text, numbered, named};
 
-use gl_job::Part;
+use crate::part::Part;
 
 /// The parts of what is said of a refusal; those that are not used are empty texts.
 pub type Parts<'a> = [Part<'a>; 6];
 
 /// No parts: what is said where there was no memory.
-pub(crate) fn nothing<'a>() -> Parts<'a>
+pub fn nothing<'a>() -> Parts<'a>
     ensures text { parts_text result ≡ [] }
 {
     let none = Part::Text("");
     [none, none, none, none, none, none]
+}
+
+/// One text.
+pub fn one_text<'a>(text: &'static str) -> Parts<'a>
+    ensures text { parts_text result ≡ text.now ++ [] }
+{
+    let none = Part::Text("");
+    [Part::Text(text), none, none, none, none, none]
 }
 
 /// A part of texts and numbers, made anew.
@@ -28,7 +35,7 @@ fn again<'a>(part: Part<'static>) -> Part<'a>
 }
 
 /// Parts of texts and numbers, made anew.
-pub(crate) fn anew<'a>(parts: Parts<'static>) -> Parts<'a>
+pub fn anew<'a>(parts: Parts<'static>) -> Parts<'a>
     ensures text { parts_text result ≡ parts_text parts.entry }
 {
     let [first, second, third, fourth, fifth, sixth] = parts;
@@ -43,7 +50,7 @@ pub(crate) fn anew<'a>(parts: Parts<'static>) -> Parts<'a>
 }
 
 /// A number behind a text.
-pub(crate) fn one<'a>(text: &'static str, number: u32) -> Parts<'a>
+pub fn one<'a>(text: &'static str, number: u32) -> Parts<'a>
     ensures text { parts_text result ≡ numbered text.now number [] }
 {
     let none = Part::Text("");
@@ -58,7 +65,7 @@ pub(crate) fn one<'a>(text: &'static str, number: u32) -> Parts<'a>
 }
 
 /// Two numbers, each behind a text.
-pub(crate) fn two<'a>(text: &'static str, number: u32, key: &'static str, other: u32) -> Parts<'a>
+pub fn two<'a>(text: &'static str, number: u32, key: &'static str, other: u32) -> Parts<'a>
     ensures text { parts_text result ≡ numbered text.now number (numbered key.now other []) }
 {
     let none = Part::Text("");
@@ -73,7 +80,7 @@ pub(crate) fn two<'a>(text: &'static str, number: u32, key: &'static str, other:
 }
 
 /// A line, how many there are and how many are needed.
-pub(crate) fn counts<'a>(text: &'static str, line: u32, has: u32, needs: u32) -> Parts<'a>
+pub fn counts<'a>(text: &'static str, line: u32, has: u32, needs: u32) -> Parts<'a>
     ensures text { parts_text result
         ≡ numbered text.now line (numbered (codes " has=") has (numbered (codes " needs=") needs [])) }
 {
@@ -88,7 +95,7 @@ pub(crate) fn counts<'a>(text: &'static str, line: u32, has: u32, needs: u32) ->
 }
 
 /// A name behind a text.
-pub(crate) fn name<'a>(text: &'static str, name: &'a [u8]) -> Parts<'a>
+pub fn name<'a>(text: &'static str, name: &'a [u8]) -> Parts<'a>
     ensures text { parts_text result ≡ named text.now name.now [] }
 {
     let none = Part::Text("");

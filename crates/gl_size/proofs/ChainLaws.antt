@@ -7,6 +7,7 @@ use Rattle.std.proofs.Math.Seq.{take-length}
 use Rattle.std.proofs.lemmas.List.{append-nil, length-map, get_or-map}
 use Rattle.std.proofs.lemmas.List.Folds.{list_any-append}
 use Rattle.std.proofs.lemmas.Option.{slice_get_within, get_or_from_slice_get}
+use Rattle.gl_lists.proofs.Bools.{same_bool}
 use Rattle.gl_text.specs.LogicalLines.{same_text}
 use Rattle.gl_text.specs.Decks.{Body, dev_at, call_at, Sub, callees, is_in}
 use Rattle.gl_text.specs.Flattening.{at_depth, is_none_left}
@@ -30,12 +31,7 @@ at_place marks place = list_any (at marks) (option_to_list place)
 abbrev with_names : List Sub → List (List ℕ) → List Sub
 with_names subs names = filter (λ (s : Sub). is_in s.head.name names) subs
 
-same_bool : (a b : Bool) → (a ≡ true → b ≡ true) → (b ≡ true → a ≡ true) → a ≡ b
-same_bool true b f g = sym (f refl)
-same_bool false true f g = g refl
-same_bool false false f g = refl
-
-or_false : (b : Bool) → (b || false) ≡ b
+pub or_false : (b : Bool) → (b || false) ≡ b
 or_false true = refl
 or_false false = refl
 

@@ -1,9 +1,8 @@
 -- Counts by places are those by names, and a sum that is cut at a limit says what the limit decides.
-use Rattle.std.proofs.Common.{◌≡◌, ◌+◌, ◌≤◌, ℕ, zero, suc, List, [], ◌∷◌, length, map, cond, ltb, Bool, true, false, Option, Some, None, get_or, refl, sym, ap, ◌∙◌, arith}
+use Rattle.std.proofs.Common.{◌≡◌, ◌+◌, ◌≤◌, ℕ, zero, suc, List, [], ◌∷◌, length, map, cond, ltb, Bool, true, false, Option, Some, None, get_or, refl, sym, ap, ◌∙◌, arith, ltb-false}
 use Rattle.std.specs.Prelude.{min, not, sum_by, slice_index, find, unwrap_or, option_map, option_to_list}
 use Rattle.std.proofs.Math.Nat.{zero-min}
 use Rattle.std.specs.List.{position_or_len}
-use Rattle.std.proofs.lemmas.Bool.Decides.{nat_tests}
 use Rattle.std.proofs.lemmas.List.{get_or_past, length-map}
 use Rattle.std.proofs.lemmas.List.Sums.{sum_by-cons, sum_by-append}
 use Rattle.gl_text.specs.LogicalLines.{same_text}
@@ -11,7 +10,7 @@ use Rattle.gl_text.specs.Decks.{Body, dev_at, call_at, Sub, callees}
 use Rattle.gl_text.specs.Flattening.{size_of, sizes}
 use Rattle.gl_deck.specs.Bodies.{names_of}
 use Rattle.gl_deck.specs.Places.{place_in, places_of}
-use Rattle.gl_deck.proofs.CallLaws.{flipped}
+use Rattle.gl_text.proofs.Names.{flipped}
 use Rattle.gl_size.specs.declared.counted.Counted.{Counted}
 use Rattle.gl_size.specs.declared.counted.Counted.TheVariants as counted
 use Rattle.gl_size.specs.Counts.{own_of, most_of, counts_of}
@@ -49,10 +48,10 @@ named es n = unwrap_or (option_map (λ s. s.1) (find (λ s. same_text s.0 n) es)
 abbrev placed : Table → Option ℕ → ℕ
 placed es place = sum_by (slice_index (values es)) (option_to_list place)
 
-up : (k : ℕ) → suc k ≡ 1 + k
+pub up : (k : ℕ) → suc k ≡ 1 + k
 up k = omega arith
 
-plus : (n : ℕ) → n ≡ 0 + n
+pub plus : (n : ℕ) → n ≡ 0 + n
 plus n = omega arith
 
 named_by : (b : Bool) (e : List ℕ × ℕ) (o : Option (List ℕ × ℕ)) (xs : List ℕ) (k : ℕ) → unwrap_or (option_map (λ s. s.1) o) 0 ≡ get_or xs k 0 → unwrap_or (option_map (λ s. s.1) (cond b (Some e) o)) 0 ≡ get_or (e.1 ∷ xs) (cond (not b) (1 + k) 0) 0
@@ -70,9 +69,6 @@ placed_by : (b : Bool) (xs : List ℕ) (k : ℕ) → (b ≡ false → get_or xs 
 placed_by true xs k h = plus (get_or xs k 0)
 placed_by false xs k h = h refl
 
-past : (n k : ℕ) → ltb k n ≡ false → n ≤ k
-past n k h = grind (arith, nat_tests)
-
 -- what stands under a name stands at its place
 named_placed : (subs : List Sub) (es : Table) (n : List ℕ) → map (λ e. e.0) es ≡ names_of subs → named es n ≡ placed es (place_in subs n)
 named_placed subs es n h =
@@ -82,7 +78,7 @@ named_placed subs es n h =
     let b = length-map es (λ e. e.1) in
     let c = ap length h in
     named_is es n ∙ ap (λ (ns : List (List ℕ)). get_or (values es) (position_or_len (same_text n) ns) 0) h
-    ∙ placed_by (ltb k (length names)) (values es) k (λ off. get_or_past (values es) k 0 (let d = past (length names) k off in omega arith))
+    ∙ placed_by (ltb k (length names)) (values es) k (λ off. get_or_past (values es) k 0 (let d = ltb-false k (length names) off in omega arith))
 
 nothing_placed : (place : Option ℕ) → 0 ≡ placed [] place
 nothing_placed None = refl

@@ -8,8 +8,6 @@ mod limits;
 mod rounds;
 mod sizes;
 mod tally;
-#[cfg(test)]
-mod tests;
 
 pub use excess::{Excess, first_excess};
 pub use gl_deck::{Body, Memory, Name, Sub, Subs};

@@ -6,7 +6,7 @@ use Rattle.gl_flat.specs.SeenNames.{PlainDiffer}
 use Rattle.gl_flat.proofs.PlainNames.{plain_differ}
 use Rattle.gl_flat.proofs.flattening.flat_of_cards.Goals as goal
 
-pub judged-requires-clause-plain : goal.judged-requires-clause-plain
-judged-requires-clause-plain c =
+pub flat_of_devices-requires-clause-plain : goal.flat_of_devices-requires-clause-plain
+flat_of_devices-requires-clause-plain c =
     let s = c.args.scene.now in
     subst PlainDiffer (sym (c.deref.ensures.value ∙ c.in_ok-devices.ensures.devices)) (plain_differ s.rails.now.keys s.subs.now DEPTH (bodies_value c.args.cards.now) c.requires.names)

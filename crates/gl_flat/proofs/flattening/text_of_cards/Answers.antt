@@ -6,7 +6,7 @@ use Rattle.gl_flat.specs.SeenNames.{PlainDiffer}
 use Rattle.gl_flat.proofs.PlainNames.{plain_differ}
 use Rattle.gl_flat.proofs.flattening.text_of_cards.Goals as goal
 
-pub judged_text-requires-clause-plain : goal.judged_text-requires-clause-plain
-judged_text-requires-clause-plain c =
+pub text_of_devices-requires-clause-plain : goal.text_of_devices-requires-clause-plain
+text_of_devices-requires-clause-plain c =
     let s = c.args.scene.now in
     subst PlainDiffer (sym (c.deref.ensures.value ∙ c.in_ok-devices.ensures.devices)) (plain_differ s.rails.now.keys s.subs.now DEPTH (bodies_value c.args.cards.now) c.requires.names)

@@ -2,11 +2,11 @@ use Rattle.gl_cells.proofs.KnownLaws.{library_is}
 use Rattle.gl_cells.proofs.SizeLaws.{countable}
 use Rattle.gl_cells.proofs.library.Library.read.Goals as goal
 
-pub judged-requires-clause-read : goal.judged-requires-clause-read
-judged-requires-clause-read c = c.in_ok-deck.ensures.known.read
+pub cells_of_deck-requires-clause-read : goal.cells_of_deck-requires-clause-read
+cells_of_deck-requires-clause-read c = c.in_ok-deck.ensures.known.read
 
-pub judged-requires-clause-few : goal.judged-requires-clause-few
-judged-requires-clause-few c = countable c.in_ok-deck.deck c.in_ok-deck.ensures.known
+pub cells_of_deck-requires-clause-few : goal.cells_of_deck-requires-clause-few
+cells_of_deck-requires-clause-few c = countable c.in_ok-deck.deck c.in_ok-deck.ensures.known
 
 pub returns-clause-known : goal.returns-clause-known
 returns-clause-known c =

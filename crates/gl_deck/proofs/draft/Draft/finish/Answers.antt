@@ -1,16 +1,14 @@
-use Rattle.std.proofs.Common.{[], ◌∷◌}
-use Rattle.gl_fault.proofs.AnswerLaws.{refused_is, passed_is}
-use Rattle.gl_fault.specs.Refusals.{first_some}
+use Rattle.gl_fault.proofs.AnswerLaws.{refused_by}
+use Rattle.gl_text.specs.Decks.{Deck}
 use Rattle.gl_deck.specs.Refusals.{fault_of}
-use Rattle.gl_deck.specs.Drafts.{calls_in, deck_of, open_in}
+use Rattle.gl_deck.specs.Drafts.{deck_of, end_fault, open_in}
+use Rattle.gl_deck.proofs.TitleLaws.{still_must}
 use Rattle.gl_deck.proofs.draft.Draft.finish.Goals as goal
 
-pub returns-in-Some : goal.returns-in-Some
-returns-in-Some c =
+pub returns-in-Err : goal.returns-in-Err
+returns-in-Err c =
     let d = c.args.self in
-    record { finished = refused_is fault_of c.in-Some.fault c.in_ok-fault.field-0 (first_some (open_in d ∷ calls_in d ∷ [])) (deck_of c.args.title.items d) c.in-Some.is c.in_ok-fault.ensures.first }
-
-pub returns : goal.returns
-returns c =
-    let d = c.args.self in
-    record { finished = passed_is fault_of c.in_ok-fault.field-0 (first_some (open_in d ∷ calls_in d ∷ [])) (deck_of c.args.title.items d) c.in_ok-into_deck.field-0 c.in_default.is c.in_ok-fault.ensures.first c.in_ok-into_deck.ensures.deck }
+    record {
+      finished = refused_by (fault_of c.in-Err.fault) (end_fault d) (deck_of c.args.title.items d) c.in-Err.ensures.first;
+      left_open = still_must (Unit {0}) Deck c.in-Err.fault (open_in d) c.in-Err.ensures.left_open;
+    }

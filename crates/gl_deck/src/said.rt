@@ -1,13 +1,11 @@
-//! Refusals of reading.
+//! What is said of refusals of reading.
 ghost use Rattle.std.specs.Prelude.{◌≡◌};
 ghost use Rattle.gl_deck.specs.Refusals.{fault_of};
-ghost use Rattle.gl_job.specs.Points.{told_kind, told_text};
-ghost use Rattle.gl_job.specs.Texts.{parts_text};
-ghost use Rattle.gl_said.specs.Texts.{fault_text};
+ghost use Rattle.gl_deck.specs.Texts.{fault_text};
+ghost use Rattle.gl_said.specs.Texts.{parts_text, told_text};
 
-use crate::makers::{Parts, anew, counts, nothing, one, two};
-use gl_deck::DeckFault;
-use gl_job::Kind;
+use crate::DeckFault;
+use gl_said::{Parts, anew, counts, nothing, one, two};
 
 /// The same, of texts and numbers alone.
 fn fixed_parts(fault: &DeckFault) -> Parts<'static>
@@ -50,14 +48,4 @@ pub fn deck_parts<'a>(fault: &DeckFault) -> Parts<'a>
     ensures text { parts_text result ≡ told_text fault_text (fault_of fault.now) }
 {
     anew(fixed_parts(fault))
-}
-
-/// Of which kind a refusal of reading is: of the given one, or want of memory.
-pub fn deck_kind(kind: Kind, fault: &DeckFault) -> Kind
-    ensures kind { result ≡ told_kind kind (fault_of fault.now) }
-{
-    match fault {
-        DeckFault::Memory => Kind::Memory,
-        _ => kind,
-    }
 }

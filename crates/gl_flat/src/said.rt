@@ -1,13 +1,11 @@
-//! Refusals of flattening.
+//! What is said of refusals of flattening.
 ghost use Rattle.std.specs.Prelude.{◌≡◌};
 ghost use Rattle.gl_flat.specs.Refusals.{fault_of, too_many};
-ghost use Rattle.gl_job.specs.Points.{told_kind, told_text};
-ghost use Rattle.gl_job.specs.Texts.{parts_text};
-ghost use Rattle.gl_said.specs.Texts.{fault_text};
+ghost use Rattle.gl_deck.specs.Texts.{fault_text};
+ghost use Rattle.gl_said.specs.Texts.{parts_text, told_text};
 
-use crate::makers::{Parts, name as behind, nothing, one};
-use gl_flat::{FlatFault, What};
-use gl_job::Kind;
+use crate::fault::{FlatFault, What};
+use gl_said::{Parts, name as behind, nothing, one};
 
 /// That there are too many cards or devices.
 fn too_many_parts<'a>(what: What, number: u32) -> Parts<'a>
@@ -32,15 +30,5 @@ pub fn flat_parts<'a>(fault: &'a FlatFault) -> Parts<'a>
         FlatFault::TopDevices { line } => one("25 TopDevices line=", *line),
         FlatFault::LongText { number } => one("26 LongText number=", *number),
         FlatFault::Memory => nothing(),
-    }
-}
-
-/// Of which kind a refusal of flattening is: of the given one, or want of memory.
-pub fn flat_kind(kind: Kind, fault: &FlatFault) -> Kind
-    ensures kind { result ≡ told_kind kind (fault_of fault.now) }
-{
-    match fault {
-        FlatFault::Memory => Kind::Memory,
-        _ => kind,
     }
 }

@@ -2,7 +2,7 @@ use Rattle.std.specs.Prelude.{option_map}
 use Rattle.indexmap.specs.IndexMap.{values}
 use Rattle.gl_cells.specs.Skips.{skip_value}
 use Rattle.gl_cells.proofs.SaidLaws.{said}
-use Rattle.gl_cells.proofs.cells.judged_cell.Goals as goal
+use Rattle.gl_cells.proofs.cells.lib_cell.Goals as goal
 
 pub returns-clause-cell : goal.returns-clause-cell
 returns-clause-cell c =

@@ -1,16 +1,13 @@
-//! Refusals of a library.
+//! What is said of refusals of a library.
 ghost use Rattle.std.specs.Prelude.{◌≡◌, [], codes};
 ghost use Rattle.gl_deck.specs.Refusals.{fault_of};
 ghost use Rattle.gl_cells.specs.Causes.{cause_of, limit_of};
-ghost use Rattle.gl_job.specs.Points.{told_kind, told_text};
-ghost use Rattle.gl_job.specs.Texts.{parts_text};
-ghost use Rattle.gl_said.specs.Texts.{numbered, named, cell_text, limit_name, not_yet_text, reading_of};
+ghost use Rattle.gl_cells.specs.Texts.{cell_text, limit_name, reading_of};
+ghost use Rattle.gl_said.specs.Texts.{numbered, named, parts_text, told_text};
 
-use crate::deck::deck_parts;
-use crate::makers::{Parts, one};
-use gl_cells::{LibFault, Limit, Name};
-use gl_deck::DeckFault;
-use gl_job::{Kind, Part};
+use crate::{DeckFault, LibFault, Limit, Name};
+use gl_deck::deck_parts;
+use gl_said::{Part, Parts, one};
 
 /// What there is too much of.
 fn limit_text(what: Limit) -> &'static str
@@ -98,22 +95,5 @@ pub fn library_parts<'a>(fault: &'a LibFault) -> Parts<'a>
         LibFault::CellLimit { cell, what, number } => limit_parts(cell, *what, *number),
         LibFault::CellClash { cell, name } => clash_parts(cell, name),
         _ => deck_parts(&reading_fault(fault)),
-    }
-}
-
-/// What is said of a library's first X card, which is not taken yet.
-pub fn not_yet_parts<'a>(line: u32) -> Parts<'a>
-    ensures text { parts_text result ≡ not_yet_text line }
-{
-    one("60 NotYet line=", line)
-}
-
-/// Of which kind a refusal of a library is: of the given one, or want of memory.
-pub fn library_kind(kind: Kind, fault: &LibFault) -> Kind
-    ensures kind { result ≡ told_kind kind (cause_of fault.now) }
-{
-    match fault {
-        LibFault::Memory => Kind::Memory,
-        _ => kind,
     }
 }

@@ -1,7 +1,7 @@
 use Rattle.std.proofs.Common.{◌≡◌, length, ap, arith}
 use Rattle.gl_text.specs.LogicalLines.{title_of}
 use Rattle.gl_deck.proofs.TitleLaws.{title_few}
-use Rattle.gl_deck.proofs.read.judged_title.Goals as goal
+use Rattle.gl_deck.proofs.read.title_and_cards.Goals as goal
 
 pub title_fault-requires : goal.title_fault-requires
 title_fault-requires c =
