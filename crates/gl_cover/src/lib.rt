@@ -4,8 +4,6 @@
 mod choice;
 mod laws;
 mod owners;
-#[cfg(test)]
-mod tests;
 
 pub use choice::choose;
 pub use gl_match::{Memory, Pick};

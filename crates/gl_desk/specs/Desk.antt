@@ -7,6 +7,10 @@ use Rattle.gl_desk.specs.declared.fault.ReadFault.TheVariants as faults
 use Rattle.gl_desk.specs.declared.slot.Slot.{Slot}
 use Rattle.gl_desk.specs.declared.slot.Slot.TheVariants.{Deck, Library, Map, Lifted, NewMap, Report, Out, Says}
 
+-- how many bytes a file may have
+abbrev pub LONGEST : ℕ
+LONGEST = 67108864
+
 -- what a slot shows: the bytes that an input has still to give and the bytes that an output was given, each `None`
 -- where the desk does not tell them; how many bytes were taken, whether it is in use, and how often it has failed
 pub record View : Type 0 where
@@ -105,13 +109,13 @@ pub record Fails (old new : View) : Type 0 where
 pub record TakesSome (old new : View) : Type 0 where
   pub piece : List ℕ
   pub takes : Takes old new piece
-  pub few : length piece ≤ 67108865
+  pub few : length piece ≤ LONGEST + 1
 
 -- why a whole read gave no bytes: a counted fault; one byte more than a file may have was taken; want of memory
 abbrev pub Caused : ReadFault → View → View → Type 0
 Caused faults.Failed old new = HasRisen old.faults new.faults
 Caused (faults.Long number) old new =
-    (number ≡ 67108865) × (new.taken ≡ old.taken + number) × IfSome old.left (λ left. number ≤ length left)
+    (number ≡ LONGEST + 1) × (new.taken ≡ old.taken + number) × IfSome old.left (λ left. number ≤ length left)
 Caused faults.Memory old new = Unit {0}
 
 -- a front of the bytes was given, not all of them, and then a call failed, which was counted

@@ -12,7 +12,7 @@ pub struct Failed;
 pub enum ReadFault {
     /// A call of the desk failed: the count of the slot's faults rose.
     Failed,
-    /// The input is longer than 67,108,864 bytes.
+    /// The input is longer than a file may be.
     Long {
         /// How many bytes were taken: one more than a file may have.
         number: u32,

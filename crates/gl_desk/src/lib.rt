@@ -17,10 +17,7 @@ pub use desk::Desk;
 pub use fault::{Failed, ReadFault};
 pub use gl_fault::Memory;
 pub use memory_desk::MemoryDesk;
-pub use read::read_all;
+pub use read::{FILE_BYTES, read_all};
 pub use real_desk::RealDesk;
 pub use slot::Slot;
 pub use write::write_all;
-
-#[cfg(test)]
-mod tests;

@@ -1,16 +1,19 @@
-ghost use Rattle.std.specs.Prelude.{◌≡◌, ◌+◌, ◌<◌, [], true, length, IfOk, IfSome, IfErr, IsErrOf, OnOk, OnErr};
-ghost use Rattle.gl_desk.specs.Desk.{IsInput, Takes, TakesSome, Caused, OthersSame, NamesSame};
+ghost use Rattle.std.specs.Prelude.{◌≡◌, ◌+◌, ◌≤◌, [], true, length, IfOk, IfSome, IfErr, IsErrOf, OnOk, OnErr};
+ghost use Rattle.gl_desk.specs.Desk.{LONGEST, IsInput, Takes, TakesSome, Caused, OthersSame, NamesSame};
 
 use crate::{Desk, ReadFault, Slot};
 use std::alloc::Global;
 
-/// One byte more than a file may have.
-const TOO_LONG: usize = 67_108_865;
+/// How many bytes a file may have.
+pub const FILE_BYTES: usize = 67_108_864;
+
+/// One byte more.
+const TOO_LONG: usize = FILE_BYTES + 1;
 
 /// How many bytes are asked for at once.
 const PIECE: usize = 4096;
 
-/// All that an input has left, up to its end. It ends after at most 67,108,865 bytes. After a fault
+/// All that an input has left, up to its end. It ends one byte behind `FILE_BYTES`, at most. After a fault
 /// what was taken is gone.
 pub fn read_all<D: Desk>(alloc: Global, desk: &mut D, slot: Slot) -> Result<Vec<u8>, ReadFault>
     requires input { IsInput slot }
@@ -18,14 +21,14 @@ pub fn read_all<D: Desk>(alloc: Global, desk: &mut D, slot: Slot) -> Result<Vec<
     // It is whole, and the end was met.
     ensures whole { IfOk result (λ all. IfSome (D.shows desk.old slot).left (λ left. all.items ≡ left)) }
     ensures end { OnOk result (IfSome (D.shows desk.new slot).left (λ rest. rest ≡ [])) }
-    ensures few { IfOk result (λ all. length all.items < 67108865) }
+    ensures few { IfOk result (λ all. length all.items ≤ LONGEST) }
     // Nothing else changed, and after a fault some of the bytes are taken and lost.
     ensures taken { IfOk result (λ all. Takes (D.shows desk.old slot) (D.shows desk.new slot) all.items) }
     ensures lost { OnErr result (TakesSome (D.shows desk.old slot) (D.shows desk.new slot)) }
     ensures cause { IfErr result (λ fault. Caused fault (D.shows desk.old slot) (D.shows desk.new slot)) }
     // It is too long wherever one byte too many was taken: no memory is asked for that byte.
-    ensures long { (D.shows desk.new slot).taken ≡ (D.shows desk.old slot).taken + 67108865 →
-        IsErrOf result (ReadFault.Long 67108865) }
+    ensures long { (D.shows desk.new slot).taken ≡ (D.shows desk.old slot).taken + (LONGEST + 1) →
+        IsErrOf result (ReadFault.Long (LONGEST + 1)) }
     ensures others { OthersSame D.shows desk.old desk.new slot }
     ensures names { NamesSame D.held D.wants desk.old desk.new }
 {
@@ -38,7 +41,9 @@ pub fn read_all<D: Desk>(alloc: Global, desk: &mut D, slot: Slot) -> Result<Vec<
             return Ok(all);
         }
         if all.len() + count == TOO_LONG {
-            return Err(ReadFault::Long { number: 67_108_865 });
+            return Err(ReadFault::Long {
+                number: TOO_LONG as u32,
+            });
         }
         all.extend_from_slice(&piece[..count])?;
     }

@@ -5,8 +5,8 @@ use Rattle.std.specs.Prelude.{Result, Ok, Err, OnErr, slice_index_or}
 use Rattle.std.proofs.Math.Seq.{take-append-add}
 use Rattle.std.proofs.lemmas.List.{take-append-le, take_rest}
 use Rattle.gl_desk.specs.Desk.{View, Gives, GivesFront, HasRisen}
-use Rattle.gl_job.specs.declared.part.Part.{Part}
-use Rattle.gl_job.specs.Texts.{part_text, parts_text}
+use Rattle.gl_said.specs.declared.part.Part.{Part}
+use Rattle.gl_said.specs.Texts.{part_text, parts_text}
 
 -- a text and then a front of another
 pub gives_then_front : (a b c : View) (x y : List ℕ) → Gives a b x → GivesFront b c y → GivesFront a c (x ++ y)

@@ -1,10 +1,10 @@
 -- What follows of how a job ends, for every job: by the parts of what it does.
-use Rattle.std.proofs.Common.{◌≡◌, ◌≢◌, ◌⊎◌, ◌≤◌, ◌++◌, ℕ, List, [], ◌∷◌, Option, Some, true, false, map, length, ap, sym, ◌∙◌, subst, inl, inr, arith}
+use Rattle.std.proofs.Common.{◌≡◌, ◌≢◌, ◌⊎◌, ◌≤◌, ◌+◌, ◌++◌, ℕ, List, [], ◌∷◌, Option, Some, true, false, map, length, ap, sym, ◌∙◌, subst, inl, inr, arith}
 use Rattle.std.specs.Prelude.{IfSome}
 use Rattle.std.specs.List.{AllByRecursion}
 use Rattle.gl_desk.specs.declared.slot.Slot.{Slot}
 use Rattle.gl_desk.specs.declared.slot.Slot.TheVariants.{Says}
-use Rattle.gl_desk.specs.Desk.{is_input, IsInput, IsOutput}
+use Rattle.gl_desk.specs.Desk.{LONGEST, is_input, IsInput, IsOutput}
 use Rattle.gl_job.specs.declared.kind.Kind.{Kind}
 use Rattle.gl_job.specs.declared.kind.Kind.TheVariants as kinds
 use Rattle.gl_job.specs.declared.stop.Stop.{Stop}
@@ -12,6 +12,7 @@ use Rattle.gl_job.specs.declared.stop.Stop.TheVariants as stops
 use Rattle.gl_job.specs.Texts.{End, ended, no_memory, kind_status, status_of, end_of_stop}
 use Rattle.gl_job.specs.Runs.{Run, Opening, HasCause, Unread, IsApart, IsUntouched, AreRest}
 use Rattle.gl_job.specs.Courses.{Course, refuse, read, may_stop, write, Writes, Ends}
+use Rattle.gl_job.proofs.Same.{no_output}
 use Rattle.gl_job.specs.Claims.{AreWritten, IsDone, IsStatus, IsComplete, IsLeft, IsProper}
 
 -- ---- statuses
@@ -72,7 +73,7 @@ memory_complete (write outs Are) status r nine = λ none. inr nine
 unread_complete : (stop : Stop) (o : Opening) (next : List ℕ → Course) (status : ℕ) (r : Run) → status ≡ status_of (end_of_stop stop) → Unread stop r o → IsComplete (read o next) status r
 unread_complete (stops.Read slot) o next status r is u = λ bytes sound. absurd (sound.works u.1)
 unread_complete (stops.LongFile slot) o next status r is u = λ bytes sound.
-    let many = held_by (r.held o.slot o.word) bytes (λ bs. 67108865 ≤ length bs) u.1.many sound.told in
+    let many = held_by (r.held o.slot o.word) bytes (λ bs. LONGEST + 1 ≤ length bs) u.1.many sound.told in
     (λ long. inl is, λ few. absurd (omega (arith, many, few)))
 unread_complete (stops.Write slot) o next status r is u = absurd u
 unread_complete stops.Memory o next status r is u = memory_complete (read o next) status r is
@@ -120,10 +121,6 @@ unused_of opened (write outs Are) end r slot (inr w) apart left quiet = w.4 slot
 -- after these statuses only, an output may be in use
 abbrev pub AreClosed : ℕ → Run → Type 0
 AreClosed status r = (status ≡ 0) ⊎ ((status ≡ 8) ⊎ ((slot : Slot) → IsOutput slot → slot ≢ Says → IsUntouched r slot))
-
-no_output : (slot : Slot) (opened : List Slot) → IsOutput slot → AllByRecursion IsInput opened → IsApart slot opened
-no_output slot [] out ins = tt
-no_output slot (s ∷ opened) out ins = (λ e. let both : true ≡ false = sym ins.0 ∙ ap is_input (sym e) ∙ out in absurd (cc both), no_output slot opened out ins.1)
 
 closed_rest : (status : ℕ) (opened : List Slot) (r : Run) → AllByRecursion IsInput opened → AreRest opened r → AreClosed status r
 closed_rest status opened r ins rest = inr (inr (λ slot out quiet. rest slot (no_output slot opened out ins) quiet))

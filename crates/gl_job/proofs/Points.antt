@@ -7,7 +7,8 @@ use Rattle.gl_job.specs.declared.kind.Kind.{Kind}
 use Rattle.gl_job.specs.Texts.{End, ended, no_memory}
 use Rattle.gl_job.specs.Runs.{Run, Opening, AreRest}
 use Rattle.gl_job.specs.Courses.{Course, refuse, read, may_stop, write, unless, input, Ends, Makes}
-use Rattle.gl_job.specs.Points.{told, told_kind, told_text, Refuses, IsRead, IsNotRead}
+use Rattle.gl_job.specs.Points.{told, told_kind, Refuses, IsRead, IsNotRead}
+use Rattle.gl_said.specs.Texts.{told_text}
 use Rattle.gl_job.proofs.Same.{LooksSame, whole_same, unread_same}
 
 -- ---- refusals

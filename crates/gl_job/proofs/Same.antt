@@ -1,10 +1,10 @@
 -- What one run saw, another saw that looks the same at the slots in question.
 use Rattle.std.proofs.Common.{◌≡◌, ◌≢◌, ◌++◌, ℕ, List, [], ◌∷◌, Option, true, false, map, take, length, ap, sym, ◌∙◌, subst, inl, inr}
-use Rattle.std.specs.Prelude.{IfSome, IsSomeAnd, ◌≤◌}
+use Rattle.std.specs.Prelude.{IfSome, IsSomeAnd, ◌+◌, ◌≤◌}
 use Rattle.std.specs.List.{AllByRecursion}
 use Rattle.gl_desk.specs.declared.slot.Slot.{Slot}
 use Rattle.gl_desk.specs.declared.slot.Slot.TheVariants.{Says}
-use Rattle.gl_desk.specs.Desk.{View, HasRisen, is_input, IsInput, IsOutput}
+use Rattle.gl_desk.specs.Desk.{LONGEST, View, HasRisen, is_input, IsInput, IsOutput}
 use Rattle.gl_job.specs.declared.stop.Stop.{Stop}
 use Rattle.gl_job.specs.declared.stop.Stop.TheVariants as stops
 use Rattle.gl_job.specs.Texts.{End}
@@ -56,7 +56,7 @@ unread_same (stops.LongFile slot) o s r same held u = (
   record {
     used = ap (λ (v : View). v.used) (sym same.after) ∙ u.1.used;
     counted = ap (λ (v : View). v.taken) (sym same.after) ∙ u.1.counted;
-    many = subst (λ (h : Option (List ℕ)). IfSome h (λ bytes. 67108865 ≤ length bytes)) held u.1.many;
+    many = subst (λ (h : Option (List ℕ)). IfSome h (λ bytes. LONGEST + 1 ≤ length bytes)) held u.1.many;
   },
 )
 unread_same (stops.Write slot) o s r same held u = absurd u
@@ -114,7 +114,7 @@ no_input slot [] input proper = tt
 no_input slot (o ∷ outs) input proper = (λ e. let both : true ≡ false = sym input ∙ ap is_input e ∙ proper.0.0 in absurd (cc both), no_input slot outs input proper.1)
 
 -- an output is none of the inputs
-no_output : (slot : Slot) (opened : List Slot) → IsOutput slot → AllByRecursion IsInput opened → IsApart slot opened
+pub no_output : (slot : Slot) (opened : List Slot) → IsOutput slot → AllByRecursion IsInput opened → IsApart slot opened
 no_output slot [] output ins = tt
 no_output slot (p ∷ opened) output ins = (λ e. let both : true ≡ false = sym ins.0 ∙ ap is_input (sym e) ∙ output in absurd (cc both), no_output slot opened output ins.1)
 

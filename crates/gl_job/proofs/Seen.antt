@@ -1,9 +1,9 @@
 -- What a slot that shows something tells of how a job ended: too many bytes taken, or a fault counted where it is not in use.
-use Rattle.std.proofs.Common.{◌≡◌, ◌≢◌, ◌⊎◌, ◌<◌, ◌++◌, ℕ, zero, suc, List, [], ◌∷◌, true, false, map, refl, ap, sym, ◌∙◌, subst, inl, inr, arith}
+use Rattle.std.proofs.Common.{◌≡◌, ◌≢◌, ◌⊎◌, ◌<◌, ◌+◌, ◌++◌, ℕ, zero, suc, List, [], ◌∷◌, true, false, map, refl, ap, sym, ◌∙◌, subst, inl, inr, arith}
 use Rattle.std.specs.List.{AllByRecursion}
 use Rattle.gl_desk.specs.declared.slot.Slot.{Slot}
 use Rattle.gl_desk.specs.declared.slot.Slot.TheVariants.{Says}
-use Rattle.gl_desk.specs.Desk.{View, IsInput, IsOutput}
+use Rattle.gl_desk.specs.Desk.{LONGEST, View, IsInput, IsOutput}
 use Rattle.gl_desk.specs.Places.{place_of}
 use Rattle.gl_desk.proofs.Seating.{slot_at, slot_at-place_of}
 use Rattle.gl_job.specs.declared.stop.Stop.{Stop}
@@ -50,7 +50,7 @@ opened_or_untouched P slot opened r all rest quiet = by (apart_or_has P slot ope
 pub record IsTooMuch (r : Run) (slot : Slot) : Type 0 where
   pub free : (r.before slot).used ≡ false
   pub used : (r.after slot).used ≡ true
-  pub taken : (r.after slot).taken ≡ 67108865
+  pub taken : (r.after slot).taken ≡ LONGEST + 1
 
 not_much : (opened : List Slot) (r : Run) (slot : Slot) → AllByRecursion (IsNotLong r) opened → AreRest opened r → slot ≢ Says → IsTooMuch r slot → ⊥
 not_much opened r slot all rest quiet much = by (opened_or_untouched (IsNotLong r) slot opened r all rest quiet) where

@@ -3,7 +3,7 @@ use Rattle.std.specs.Prelude.{◌≡◌, ◌≢◌, ◌⊎◌, ℕ, ◌<◌, ◌
 use Rattle.std.specs.List.{AllByRecursion}
 use Rattle.gl_desk.specs.declared.slot.Slot.{Slot}
 use Rattle.gl_desk.specs.declared.slot.Slot.TheVariants.{Says}
-use Rattle.gl_desk.specs.Desk.{IsInput, IsOutput}
+use Rattle.gl_desk.specs.Desk.{LONGEST, IsInput, IsOutput}
 use Rattle.gl_job.specs.declared.kind.Kind.{Kind}
 use Rattle.gl_job.specs.Texts.{kind_status}
 use Rattle.gl_job.specs.Runs.{Run, Opening, HasCause, IsWhole, IsWritten}
@@ -39,7 +39,7 @@ IsStatus status wanted = (status ≡ wanted) ⊎ (status ≡ 9)
 abbrev pub IsComplete : Course → ℕ → Run → Type 0
 IsComplete (refuse kind text) status r = IsStatus status (kind_status kind)
 IsComplete (read o next) status r = (bytes : List ℕ) → IsSound r o bytes
-    → (67108864 < length bytes → IsStatus status 6) × (length bytes ≤ 67108864 → IsComplete (next bytes) status r)
+    → (LONGEST < length bytes → IsStatus status 6) × (length bytes ≤ LONGEST → IsComplete (next bytes) status r)
 IsComplete (may_stop Stops next) status r =
     ((kind : Kind) × (text : List ℕ) × Stops kind text × (status ≡ kind_status kind)) ⊎ IsComplete next status r
 IsComplete (write outs Are) status r = AllByRecursion (λ o. ¬ HasCause r o) outs → IsStatus status 0

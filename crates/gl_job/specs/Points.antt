@@ -11,14 +11,10 @@ abbrev pub told : {E : Type 0} → Kind → (E → List ℕ) → Option E → En
 told kind text None = no_memory
 told kind text (Some fault) = ended kind (text fault)
 
--- its kind, and its text
+-- its kind
 abbrev pub told_kind : {E : Type 0} → Kind → Option E → Kind
 told_kind kind None = kinds.Memory
 told_kind kind (Some fault) = kind
-
-abbrev pub told_text : {E : Type 0} → (E → List ℕ) → Option E → List ℕ
-told_text text None = []
-told_text text (Some fault) = text fault
 
 -- the end tells the refusal that there is; want of memory may come in place of any answer
 abbrev pub Refuses : {V E : Type 0} → Kind → (E → List ℕ) → Result V E → End → Type 0

@@ -1,9 +1,9 @@
 -- What a run saw of the slots: what was read of an input, or why nothing; what became of an output.
-use Rattle.std.specs.Prelude.{◌≡◌, ◌≢◌, ◌⊎◌, ℕ, ◌≤◌, List, [], true, Option, length, take, IfSome, IsSomeAnd}
+use Rattle.std.specs.Prelude.{◌≡◌, ◌≢◌, ◌⊎◌, ℕ, ◌+◌, ◌≤◌, List, [], true, Option, length, take, IfSome, IsSomeAnd}
 use Rattle.std.specs.List.{AllByRecursion}
 use Rattle.gl_desk.specs.declared.slot.Slot.{Slot}
 use Rattle.gl_desk.specs.declared.slot.Slot.TheVariants.{Says}
-use Rattle.gl_desk.specs.Desk.{View, HasRisen}
+use Rattle.gl_desk.specs.Desk.{LONGEST, View, HasRisen}
 use Rattle.gl_job.specs.declared.stop.Stop.{Stop}
 use Rattle.gl_job.specs.declared.stop.Stop.TheVariants as stops
 
@@ -33,20 +33,20 @@ HasCause r o = HasRisen (r.before o.slot).faults (r.after o.slot).faults ⊎ IsS
 
 -- the slot is not in use, or not one byte more than a file may have was taken of it
 abbrev pub IsNotLong : Run → Slot → Type 0
-IsNotLong r slot = (r.after slot).used ≡ true → (r.after slot).taken ≢ 67108865
+IsNotLong r slot = (r.after slot).used ≡ true → (r.after slot).taken ≢ LONGEST + 1
 
 -- one byte more than a file may have was taken, and the word holds so many
 pub record IsLong (r : Run) (o : Opening) : Type 0 where
   pub used : (r.after o.slot).used ≡ true
-  pub counted : (r.after o.slot).taken ≡ 67108865
-  pub many : IfSome (r.held o.slot o.word) (λ bytes. 67108865 ≤ length bytes)
+  pub counted : (r.after o.slot).taken ≡ LONGEST + 1
+  pub many : IfSome (r.held o.slot o.word) (λ bytes. LONGEST + 1 ≤ length bytes)
 
 -- the input was read to its end, and these are the bytes that its word holds
 pub record IsWhole (r : Run) (o : Opening) (bytes : List ℕ) : Type 0 where
   pub used : (r.after o.slot).used ≡ true
   pub same_bytes : IfSome (r.held o.slot o.word) (λ held. bytes ≡ held)
   pub end : IfSome (r.after o.slot).left (λ rest. rest ≡ [])
-  pub few : length bytes ≤ 67108864
+  pub few : length bytes ≤ LONGEST
   pub counted : (r.after o.slot).taken ≡ length bytes
 
 -- why an input could not be read; there is no memory only for bytes of an input that was opened

@@ -1,12 +1,10 @@
 -- How a run ends, and the line that is said of it, after docs/FORMATS.md.
-use Rattle.std.specs.Prelude.{◌≡◌, ◌⊎◌, ℕ, List, [], ◌∷◌, ◌++◌, codes, decimal, flat_map}
+use Rattle.std.specs.Prelude.{◌≡◌, ◌⊎◌, ℕ, List, [], ◌∷◌, ◌++◌, codes}
 use Rattle.gl_desk.specs.declared.slot.Slot.{Slot}
 use Rattle.gl_desk.specs.declared.slot.Slot.TheVariants.{Deck, Library, Map, Lifted, NewMap, Report, Out, Says}
 use Rattle.gl_desk.specs.Desk.{View, Gives, GivesFront}
 use Rattle.gl_job.specs.declared.kind.Kind.{Kind}
 use Rattle.gl_job.specs.declared.kind.Kind.TheVariants as kinds
-use Rattle.gl_job.specs.declared.part.Part.{Part}
-use Rattle.gl_job.specs.declared.part.Part.TheVariants as parts
 use Rattle.gl_job.specs.declared.stop.Stop.{Stop}
 use Rattle.gl_job.specs.declared.stop.Stop.TheVariants as stops
 
@@ -81,18 +79,6 @@ status_of (ended kind text) = kind_status kind
 abbrev pub line_of : End → List ℕ
 line_of (done line) = line
 line_of (ended kind text) = front_of kind ++ (text ++ codes "\n")
-
--- ---- messages
-
--- the text of a part
-abbrev pub part_text : Part → List ℕ
-part_text (parts.Text text) = text.now
-part_text (parts.Name name) = name.now
-part_text (parts.Number number) = decimal number
-
--- the text of parts
-abbrev pub parts_text : List Part → List ℕ
-parts_text parts = flat_map part_text parts
 
 -- ---- what is said
 

@@ -2,14 +2,12 @@
 #![tactic(auto)]
 
 mod kind;
-mod part;
 mod reading;
 mod says;
 mod stop;
 mod writing;
 
 pub use kind::Kind;
-pub use part::{Part, one_text, text_and_name, text_and_number};
 pub use reading::read;
 pub use says::say;
 pub use stop::Stop;

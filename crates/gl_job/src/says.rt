@@ -1,10 +1,11 @@
 ghost use Rattle.std.specs.Prelude.{◌≡◌, ◌++◌, codes, true, OnOk, OnErr};
 ghost use Rattle.gl_desk.specs.Desk.{Gives, GivesFront, OthersSame, NamesSame};
-ghost use Rattle.gl_job.specs.Texts.{part_text, parts_text, front_of, ended, line_of, GivesOrFails};
+ghost use Rattle.gl_job.specs.Texts.{front_of, ended, line_of, GivesOrFails};
+ghost use Rattle.gl_said.specs.Texts.{part_text, parts_text};
 
 use crate::kind::Kind;
-use crate::part::Part;
 use gl_desk::{Desk, Failed, Slot, write_all};
+use gl_said::Part;
 use itoa::Buffer;
 
 /// Gives a part.

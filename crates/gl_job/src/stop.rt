@@ -1,10 +1,11 @@
 ghost use Rattle.std.specs.Prelude.{◌≡◌};
-ghost use Rattle.gl_job.specs.Texts.{slot_name, parts_text, stop_text};
+ghost use Rattle.gl_job.specs.Texts.{slot_name, stop_text};
+ghost use Rattle.gl_said.specs.Texts.{parts_text};
 ghost use Rattle.gl_job.specs.declared.stop.Stop.{Stop as Why};
 
 use crate::kind::Kind;
-use crate::part::{Part, one_text};
 use gl_desk::Slot;
+use gl_said::{Part, Parts, one_text};
 
 /// What stops a run at a slot, or anywhere for want of memory.
 #[derive(Clone, Copy, Debug, PartialEq, Eq)]
@@ -45,7 +46,7 @@ fn name_of(slot: Slot) -> &'static str
 }
 
 /// That the file at an input is too long.
-fn long_file<'a>(slot: Slot) -> [Part<'a>; 6]
+fn long_file<'a>(slot: Slot) -> Parts<'a>
     ensures text { parts_text result ≡ stop_text (Why.LongFile slot) }
 {
     let none = Part::Text("");
@@ -61,7 +62,8 @@ fn long_file<'a>(slot: Slot) -> [Part<'a>; 6]
 
 impl Stop {
     ghost use Rattle.std.specs.Prelude.{◌≡◌};
-    ghost use Rattle.gl_job.specs.Texts.{parts_text, stop_kind, stop_text};
+    ghost use Rattle.gl_job.specs.Texts.{stop_kind, stop_text};
+    ghost use Rattle.gl_said.specs.Texts.{parts_text};
 
     /// Of which kind it is.
     pub fn kind(self) -> Kind
@@ -76,7 +78,7 @@ impl Stop {
     }
 
     /// What is said of it.
-    pub fn parts<'a>(self) -> [Part<'a>; 6]
+    pub fn parts<'a>(self) -> Parts<'a>
         ensures text { parts_text result ≡ stop_text self }
     {
         match self {

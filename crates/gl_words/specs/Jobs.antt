@@ -38,9 +38,9 @@ abbrev pub top_in : List Row → Option (List ℕ)
 top_in rows = option_map folded (first_of (codes "top") rows)
 
 -- the names that `--keep` gives
-abbrev pub kept : Option (List ℕ) → List (List ℕ)
-kept None = []
-kept (Some text) = names_in text
+abbrev pub keep_in : Option (List ℕ) → List (List ℕ)
+keep_in None = []
+keep_in (Some text) = names_in text
 
 abbrev pub request_of : List Row → Request
 request_of rows = record {
@@ -50,7 +50,7 @@ request_of rows = record {
   map = word_at (codes "map") rows;
   report = word_at (codes "report") rows;
   top = top_in rows;
-  keep = kept (first_of (codes "keep") rows);
+  keep = keep_in (first_of (codes "keep") rows);
 }
 
 abbrev pub flat_request_of : List Row → FlatRequest

@@ -3,6 +3,7 @@ use Rattle.std.specs.Prelude.{ℕ, List, [], ◌∷◌, Option, None, Some, code
 use Rattle.gl_text.specs.LogicalLines.{same_text}
 use Rattle.gl_words.specs.declared.help.Topic.{Topic}
 use Rattle.gl_words.specs.declared.help.Topic.TheVariants.{All, Version, Lift, Flat}
+use Rattle.gl_words.specs.declared.help.TheConstants as texts
 
 -- a job of this name
 abbrev pub job_topic : List ℕ → Option Topic
@@ -28,3 +29,10 @@ topic_named _ = None
 abbrev pub usage_named : List (List ℕ) → Topic
 usage_named (word ∷ words) = unwrap_or (job_topic word) All
 usage_named [] = All
+
+-- the text of what the words ask for
+abbrev pub topic_text : Topic → List ℕ
+topic_text All = texts.ALL.now
+topic_text Version = texts.VERSION.now
+topic_text Lift = texts.LIFT.now
+topic_text Flat = texts.FLAT.now

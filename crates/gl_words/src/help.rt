@@ -1,6 +1,6 @@
 //! Words that ask for a text, and the texts.
 ghost use Rattle.std.specs.Prelude.{◌≡◌, map, string_bytes};
-ghost use Rattle.gl_words.specs.Topics.{job_topic, alone_topic, paired_topic, topic_named, usage_named};
+ghost use Rattle.gl_words.specs.Topics.{job_topic, alone_topic, paired_topic, topic_named, usage_named, topic_text};
 
 /// What a text tells of.
 #[derive(Clone, Copy, Debug, PartialEq, Eq)]
@@ -139,7 +139,9 @@ pub fn usage_of(words: &[String]) -> Topic
 
 impl Topic {
     /// The text.
-    pub fn text(self) -> &'static str {
+    pub fn text(self) -> &'static str
+        ensures text { result.now ≡ topic_text self }
+    {
         match self {
             Topic::All => ALL,
             Topic::Version => VERSION,

@@ -28,7 +28,7 @@ fn take_byte(
 }
 
 /// The names of a list with commas between them, folded. An empty part is the empty name.
-pub fn names_of(alloc: Global, text: &[u8]) -> Result<Vec<Name>, Memory>
+pub fn split_names(alloc: Global, text: &[u8]) -> Result<Vec<Name>, Memory>
     ensures names { IfOk result (λ names. names.items ≡ names_in text.now) }
 {
     let mut names = Vec::new(alloc);

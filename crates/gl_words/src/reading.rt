@@ -2,10 +2,10 @@
 ghost use Rattle.std.specs.Prelude.{◌≡◌, map, option_map, string_bytes, true, IfOk};
 ghost use Rattle.clap.specs.Words.{app_of, first_of, is_simple_and_free};
 ghost use Rattle.gl_text.specs.LogicalLines.{folded};
-ghost use Rattle.gl_words.specs.Jobs.{word_at, kept};
+ghost use Rattle.gl_words.specs.Jobs.{word_at, keep_in};
 ghost use Rattle.gl_words.specs.Reading.{words_read, rows_in};
 
-use crate::keep::names_of;
+use crate::keep::split_names;
 use clap::error::ErrorKind;
 use clap::{ArgMatches, Command};
 use gl_fault::Memory;
@@ -64,10 +64,10 @@ pub fn name_of(alloc: Global, matches: &ArgMatches<'_>, id: &str) -> Result<Opti
 /// The names that an option gives, with commas between them, folded.
 pub fn kept_names(alloc: Global, matches: &ArgMatches<'_>, id: &str) -> Result<Vec<Name>, Memory>
     ensures names { IfOk result (λ names. names.items
-        ≡ kept (first_of id.now (rows_in matches.now))) }
+        ≡ keep_in (first_of id.now (rows_in matches.now))) }
 {
     match value_of(matches, id) {
-        Some(text) => names_of(alloc, text.as_bytes()),
+        Some(text) => split_names(alloc, text.as_bytes()),
         None => Ok(Vec::new(alloc)),
     }
 }

@@ -2,7 +2,8 @@ use Rattle.std.proofs.Common.{rules, ◌++◌, ℕ, List, subst}
 use Rattle.std.specs.Prelude.{codes, OnErr}
 use Rattle.gl_desk.specs.Desk.{Gives, GivesFront}
 use Rattle.gl_desk.specs.declared.slot.Slot.TheVariants.{Says}
-use Rattle.gl_job.specs.Texts.{front_of, parts_text}
+use Rattle.gl_job.specs.Texts.{front_of}
+use Rattle.gl_said.specs.Texts.{parts_text}
 use Rattle.gl_job.proofs.Fronts.{gives_then_front, front_longer, on_err, err_then}
 use Rattle.gl_job.proofs.says.give_line.Goals as goal
 

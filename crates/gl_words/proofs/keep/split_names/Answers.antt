@@ -3,7 +3,7 @@ use Rattle.std.proofs.lemmas.List.{take_all}
 use Rattle.gl_text.specs.LogicalLines.{folded}
 use Rattle.gl_words.specs.Pieces.{pieces}
 use Rattle.gl_words.proofs.Pieces.{begin, finish}
-use Rattle.gl_words.proofs.keep.names_of.Goals as goal
+use Rattle.gl_words.proofs.keep.split_names.Goals as goal
 
 pub loop-byte-init : goal.loop-byte-init
 loop-byte-init c = λ rest. rw (c.new-names.ensures.items, c.new-piece.ensures.items) (begin rest)

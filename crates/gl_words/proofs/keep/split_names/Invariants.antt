@@ -1,7 +1,7 @@
 use Rattle.std.proofs.Common.{◌≡◌, ◌++◌, ℕ, List, map, take}
 use Rattle.gl_text.specs.LogicalLines.{folded}
 use Rattle.gl_words.specs.Pieces.{onto_first, pieces}
-use Rattle.gl_words.proofs.keep.names_of.Given as goal
+use Rattle.gl_words.proofs.keep.split_names.Given as goal
 
 abbrev pub invariant-loop-byte : goal.invariant-loop-byte
 invariant-loop-byte l = (rest : List ℕ)

@@ -1,5 +1,0 @@
-use Rattle.gl_desk.specs.declared.slot.Slot.TheVariants.{Out}
-use Rattle.gl_desk.proofs.tests.write_file.Goals as goal
-
-pub open-requires-clause-free : goal.open-requires-clause-free
-open-requires-clause-free g c = c.new-desk.ensures.fresh.free Out (λ e. cc e)
