@@ -1,5 +1,5 @@
 -- Cards as devices: their types have numbers and as many places, and their nets have numbers.
-use Rattle.std.proofs.Common.{◌≡◌, ◌<◌, ℕ, List, [], ◌∷◌, length, get_or, map, cond, eqb, Bool, true, false, Option, None, Some, refl, sym, ap, ◌∙◌, subst, arith, inl, inr}
+use Rattle.std.proofs.Common.{◌≡◌, ◌<◌, ℕ, List, [], ◌∷◌, length, get_or, map, cond, eqb, Bool, true, false, Option, None, Some, refl, ap, ◌∙◌, subst, arith, inl, inr}
 use Rattle.std.specs.Prelude.{All, slice_index_or}
 use Rattle.std.specs.List.{list_any}
 use Rattle.std.proofs.lemmas.Bool.{cases_Bool, eqb-true}
@@ -8,14 +8,13 @@ use Rattle.std.proofs.lemmas.List.Elements.{All-map}
 use Rattle.gl_match.proofs.Lists.{get_map}
 use Rattle.gl_text.specs.LogicalLines.{same_text}
 use Rattle.gl_text.specs.Cards.{Device as Card, device, other, caller, unknown, kinds, by_byte, first_byte, IsDeviceCard}
-use Rattle.gl_graph.specs.Faults.{is_bad_shape, device_fault}
+use Rattle.gl_graph.specs.Faults.{is_bad_shape}
 use Rattle.gl_base.specs.TypeNames.{TypeName, of_letter, same_type, type_by, type_by_model, type_by_word, classes_of, classes_by, letter_classes}
-use Rattle.gl_base.specs.BaseCircuit.{net_number, type_number, device_by}
+use Rattle.gl_base.specs.BaseCircuit.{net_number, type_number}
 use Rattle.gl_base.proofs.OnceLaws.{there, place_within, place_back}
 use Rattle.gl_base.proofs.TextLaws as text
 use Rattle.gl_base.proofs.TypeLaws as kinds_are
-use Rattle.gl_lib.specs.Numbered.{AreNets, IsNumbered}
-use Rattle.gl_lib.proofs.FaultLaws.{device_sound}
+use Rattle.gl_lib.specs.Numbered.{AreNets}
 
 -- a letter has a byte, or another one
 by_letter : (letter b : ℕ) (P : ℕ → Type 0) → P letter → (eqb letter b ≡ false → P b) → P b
@@ -89,11 +88,3 @@ pub numbers_below : (nets names : List (List ℕ)) → AreNets nets names → Al
 numbers_below nets names h =
     All-map (λ net. net < length nets) (net_number nets) names
     (λ k d lt. place_within same_text text.exact text.itself nets (get_or names k d) (there same_text text.exact text.itself nets (get_or names k d) (h k d lt)))
-
--- a numbered card is a device without a fault
-pub card_sound : (words : List ℕ → Option (List ℕ)) (types : List TypeName) (nets : List (List ℕ)) (dev : ℕ) (card : Card) → IsDeviceCard card → IsNumbered (type_by words) types nets card → device_fault (map classes_of types) (length nets) dev (device_by (type_by words) types nets card) ≡ None
-card_sound words types nets dev card is numbered =
-    device_sound (map classes_of types) (length nets) dev (device_by (type_by words) types nets card)
-    (number_of_type types (type_by words card) numbered.kind)
-    (length-map card.nodes (net_number nets) ∙ sym (type_places words card is) ∙ ap length (sym (shape_of_number types (type_by words card) numbered.kind)))
-    (numbers_below nets card.nodes numbered.nodes)

@@ -1,34 +1,26 @@
 -- The circuit of a deck has no fault, and few enough parts.
 use Rattle.std.proofs.Common.{◌≡◌, ◌+◌, ◌<◌, ◌≤◌, ℕ, List, [], ◌∷◌, length, get_or, map, take, true, false, ltb, Option, None, Some, refl, sym, ap, ◌∙◌, subst, arith}
-use Rattle.std.specs.Prelude.{not, Contains, All, flat_map, position}
+use Rattle.std.specs.Prelude.{not, Contains, flat_map, position}
 use Rattle.std.specs.List.{list_any}
-use Rattle.std.proofs.lemmas.Bool.{or_from, not_from_true, lt-ltb, ltb-false, or_parts, eqb-true, false_from_ne_true}
+use Rattle.std.proofs.lemmas.Bool.{or_from, not_from_true, lt-ltb, eqb-true, false_from_ne_true}
 use Rattle.std.proofs.lemmas.List.{length-map, get_or-take, length-take}
 use Rattle.std.proofs.lemmas.List.Folds.{list_any_none}
 use Rattle.std.proofs.lemmas.List.Sums.{sum_by-cons}
-use Rattle.std.proofs.lemmas.List.Elements.{Contains-get_or}
-use Rattle.gl_match.proofs.Lists.{Once, get_map, in_map, from_map}
+use Rattle.gl_match.proofs.Lists.{Once, get_map, in_map}
 use Rattle.gl_text.specs.LogicalLines.{same_text}
-use Rattle.gl_text.specs.Cards.{Device as Card, IsDeviceCard}
+use Rattle.gl_text.specs.Cards.{Device as Card}
 use Rattle.gl_text.specs.CellCards.{places_count}
 use Rattle.gl_match.specs.Graph.{Device, is_some_at}
-use Rattle.gl_match.specs.Turns.{turns_of}
-use Rattle.gl_graph.specs.declared.fault.BuildFault.TheVariants.{BadRail, BadShape}
+use Rattle.gl_graph.specs.declared.fault.BuildFault.TheVariants.{BadRail}
 use Rattle.gl_graph.specs.Built.{count_places}
-use Rattle.gl_graph.specs.Faults.{first_in, shape_fault, is_bad_shape, device_fault, rail_fault, is_bad_rail}
-use Rattle.gl_base.specs.TypeNames.{TypeName, of_letter, same_type, type_by, classes_of, each_once}
+use Rattle.gl_graph.specs.Faults.{first_in, rail_fault, is_bad_rail}
+use Rattle.gl_base.specs.TypeNames.{TypeName, same_type, classes_of, each_once}
 use Rattle.gl_base.specs.BaseCircuit.{nets_of, net_number, device_by}
-use Rattle.gl_base.proofs.OnceLaws.{found, in_once, from_once, length_once, once_apart, position_back}
+use Rattle.gl_base.proofs.OnceLaws.{found, in_once, length_once, once_apart, position_back}
 use Rattle.gl_base.proofs.TextLaws as text
 use Rattle.gl_base.proofs.TypeLaws as kinds_are
-use Rattle.gl_lib.specs.Numbered.{IsNumbered}
 use Rattle.gl_lib.proofs.FaultLaws.{no_fault, none_from_start}
-use Rattle.gl_lib.proofs.CardLaws.{type_sound, card_sound}
 use Rattle.gl_lib.proofs.InsertLaws.{places_are}
-
--- a card that stands for one past the end
-no_card : Card
-no_card = record { name = []; nodes = []; model = None; tail = [] }
 
 -- the type of each of the cards is among the types
 pub type_is_there : (type : Card → TypeName) (all : List Card) (card : Card) → Contains all card → list_any (same_type (type card)) (each_once (map type all)) ≡ true
@@ -36,47 +28,6 @@ type_is_there type all card h =
     let types = map type all in
     let there : Contains (each_once types) (type card) = subst (λ ts. Contains ts (type card)) (sym (kinds_are.once_is types)) (in_once same_type kinds_are.exact kinds_are.itself types (type card) (in_map type all card h)) in
     found same_type kinds_are.exact kinds_are.itself (each_once types) (type card) there
-
--- cards that are among all are numbered
-pub all_numbered : (type : Card → TypeName) (all cards : List Card) → ((card : Card) → Contains cards card → Contains all card) → All (IsNumbered type (each_once (map type all)) (nets_of cards)) cards
-all_numbered type all cards within k d lt =
-    let card = get_or cards k d in
-    let stands = Contains-get_or cards k d lt in
-    record {
-      kind = type_is_there type all card (within card stands);
-      nodes = λ j e below. found same_text text.exact text.itself (nets_of cards) (get_or card.nodes j e) (text.node_is_net cards card (get_or card.nodes j e) stands (Contains-get_or card.nodes j e below));
-    }
-
--- the devices of numbered cards have no fault
-pub cards_sound : (words : List ℕ → Option (List ℕ)) (types : List TypeName) (nets : List (List ℕ)) (cards : List Card) → All IsDeviceCard cards → All (IsNumbered (type_by words) types nets) cards → first_in (device_fault (map classes_of types) (length nets)) 0 (map (device_by (type_by words) types nets) cards) ≡ None
-cards_sound words types nets cards are numbered =
-    none_from_start (device_fault (map classes_of types) (length nets)) (map (device_by (type_by words) types nets) cards) (λ k d lt.
-    let within : k < length cards = omega (arith, lt, length-map cards (device_by (type_by words) types nets)) in
-    ap (device_fault (map classes_of types) (length nets) k) (get_map (device_by (type_by words) types nets) cards k no_card d within)
-    ∙ card_sound words types nets k (get_or cards k no_card) (are k no_card within) (numbered k no_card within))
-
--- the shapes of cards' types are sound
-pub shapes_good : (words : List ℕ → Option (List ℕ)) (all : List Card) (k : ℕ) (d : List ℕ) → k < length (map classes_of (each_once (map (type_by words) all))) → is_bad_shape (get_or (map classes_of (each_once (map (type_by words) all))) k d) ≡ false
-shapes_good words all k d lt =
-    let types = each_once (map (type_by words) all) in
-    let within : k < length types = omega (arith, lt, length-map types classes_of) in
-    let t = get_or types k (of_letter 0) in
-    let stood : Contains (map (type_by words) all) t = from_once same_type (map (type_by words) all) t (subst (λ ts. Contains ts t) (kinds_are.once_is (map (type_by words) all)) (Contains-get_or types k (of_letter 0) within)) in
-    let r = from_map (type_by words) all t stood in
-    ap is_bad_shape (get_map classes_of types k (of_letter 0) d within ∙ ap classes_of (sym r.2)) ∙ type_sound words r.0
-
--- the shapes of cards' types have no fault
-pub shapes_sound : (words : List ℕ → Option (List ℕ)) (all : List Card) → first_in shape_fault 0 (map classes_of (each_once (map (type_by words) all))) ≡ None
-shapes_sound words all =
-    let shapes = map classes_of (each_once (map (type_by words) all)) in
-    none_from_start shape_fault shapes (λ k d lt. no_fault (is_bad_shape (get_or shapes k d)) (BadShape k) (shapes_good words all k d lt))
-
--- they have few places
-pub shapes_short : (words : List ℕ → Option (List ℕ)) (all : List Card) → All (λ classes. length classes < 4294967296) (map classes_of (each_once (map (type_by words) all)))
-shapes_short words all k d lt =
-    let classes = get_or (map classes_of (each_once (map (type_by words) all))) k d in
-    let parts = or_parts (ltb 64 (length classes)) (ltb 720 (length (turns_of classes))) (shapes_good words all k d lt) in
-    omega (arith, ltb-false 64 (length classes) parts.0)
 
 some_at : (net : ℕ) (v : Option ℕ) → is_some_at net v ≡ true → v ≡ Some net
 some_at net None e = absurd cc

@@ -1,5 +1,5 @@
 -- Kept devices as devices: they are those of their cards, and their types are among the types.
-use Rattle.std.proofs.Common.{◌≡◌, ℕ, List, [], ◌∷◌, ◌++◌, get_or, map, Option, refl, sym, ap, subst}
+use Rattle.std.proofs.Common.{◌≡◌, ℕ, List, [], ◌∷◌, ◌++◌, get_or, map, Option, refl, ap}
 use Rattle.std.specs.Prelude.{All, flat_map}
 use Rattle.std.proofs.lemmas.List.Elements.{All-map, Contains-get_or, Contains-append_left}
 use Rattle.gl_text.specs.Cards.{Device as Card}
@@ -9,7 +9,7 @@ use Rattle.gl_base.specs.TypeNames.{TypeName, type_by}
 use Rattle.gl_base.specs.BaseCircuit.{types_of, type_in, device_by}
 use Rattle.gl_base.specs.Libraries.{Library}
 use Rattle.gl_base.specs.Rounds.{cards_of, source_of}
-use Rattle.gl_flat.specs.Kept.{KeptDevice, kept_device}
+use Rattle.gl_flat.specs.Kept.{kept_device}
 use Rattle.gl_lib.specs.Sources.{type_of_flat, device_of_flat}
 use Rattle.gl_lib.specs.Numbered.{IsAmongTypes}
 use Rattle.gl_lib.proofs.CircuitLaws.{type_is_there}

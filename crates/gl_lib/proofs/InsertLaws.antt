@@ -1,21 +1,20 @@
 -- The keys of an index set after inserts: each once, in order of first appearance.
-use Rattle.std.proofs.Common.{◌≡◌, Option, Some, get_or, drop, ◌+◌, ◌<◌, ◌≤◌, ℕ, length, map, flat_map, arith, List, [], ◌∷◌, ◌++◌, cond, true, false, Bool, refl, sym, ap, ◌∙◌, subst, append_assoc, length-append, inl, inr}
-use Rattle.std.specs.Prelude.{not, ◌||◌, ◌&&◌, filter, position, if◌then◌else◌}
-use Rattle.std.specs.List.{list_any, position_or_len}
+use Rattle.std.proofs.Common.{◌≡◌, get_or, drop, ◌+◌, ◌<◌, ◌≤◌, ℕ, length, map, flat_map, arith, List, [], ◌∷◌, ◌++◌, cond, true, false, Bool, refl, sym, ap, ◌∙◌, subst, append_assoc, length-append, inl, inr}
+use Rattle.std.specs.Prelude.{not, ◌||◌, ◌&&◌, filter, if◌then◌else◌}
+use Rattle.std.specs.List.{list_any}
 use Rattle.std.proofs.lemmas.List.{drop_more, drop_all}
 use Rattle.std.proofs.lemmas.List.Sums.{fold-append, sum_by-cons}
 use Rattle.gl_text.specs.Cards.{Device as Card}
 use Rattle.gl_text.specs.CellCards.{places_count}
 use Rattle.gl_base.specs.Rails.{zero_rail, all_rails, AreRails}
-use Rattle.gl_base.specs.BaseCircuit.{nets_of}
 use Rattle.std.proofs.lemmas.Bool.{cases_Bool, not_from_true}
 use Rattle.std.proofs.lemmas.List.Elements.{filter_agree}
 use Rattle.std.proofs.lemmas.List.Folds.{list_any-append}
 use Rattle.indexmap.specs.IndexSet.{insert_key, insert_all}
 use Rattle.gl_text.specs.LogicalLines.{same_text}
-use Rattle.gl_text.specs.Decks.{once, is_in}
+use Rattle.gl_text.specs.Decks.{once}
 use Rattle.gl_base.specs.TypeNames.{TypeName, same_type, each_once}
-use Rattle.gl_base.proofs.OnceLaws.{once_by, filter_all, there, same_if, differ_if, position_there, once_kept}
+use Rattle.gl_base.proofs.OnceLaws.{once_by, filter_all, same_if, differ_if, once_kept}
 use Rattle.gl_base.proofs.TextLaws as text
 use Rattle.gl_base.proofs.TypeLaws as types
 
@@ -116,10 +115,6 @@ types_inserted start keys kinds empty e =
 pub few_names : (keys names : List (List ℕ)) (limit : ℕ) → keys ≡ once names → length names < limit → length keys < limit
 few_names keys names limit e few = let same = ap length e in omega (arith, same, text.names_fewer names)
 
--- one step: one device's names go first
-pub nodes_inserted : (keys new : List (List ℕ)) (d : Card) (ds : List Card) → new ≡ insert_all same_text keys d.nodes → insert_all same_text new (flat_map (λ (c : Card). c.nodes) ds) ≡ insert_all same_text keys (flat_map (λ (c : Card). c.nodes) (d ∷ ds))
-nodes_inserted keys new d ds e = ap (λ ks. insert_all same_text ks (flat_map (λ (c : Card). c.nodes) ds)) e ∙ sym (fold-append (insert_key same_text) keys d.nodes (flat_map (λ (c : Card). c.nodes) ds))
-
 -- the places of devices, and the devices
 pub places_are : (devices : List Card) → length (flat_map (λ (d : Card). d.nodes) devices) + length devices ≡ places_count devices
 places_are [] = refl
@@ -128,21 +123,24 @@ places_are (d ∷ ds) =
     let count = sum_by-cons (λ (c : Card). length c.nodes + 1) d ds in
     omega (arith, split, count, places_are ds)
 
--- one step of a loop over devices
-pub nodes_step : {R : Type 0} (value : R → Card) (keys new : List (List ℕ)) (devices : List R) (i : ℕ) (d : R) (whole : List (List ℕ)) → i < length devices → d ≡ get_or devices i d → new ≡ insert_all same_text keys (value d).nodes
-    → insert_all same_text keys (flat_map (λ (c : Card). c.nodes) (map value (drop i devices))) ≡ whole → insert_all same_text new (flat_map (λ (c : Card). c.nodes) (map value (drop (i + 1) devices))) ≡ whole
-nodes_step value keys new devices i d whole lt d_is new_is before =
-    let split : drop i devices ≡ d ∷ drop (i + 1) devices = drop_more devices i d lt ∙ ap (λ c. c ∷ drop (i + 1) devices) (sym d_is) in
-    nodes_inserted keys new (value d) (map value (drop (i + 1) devices)) new_is
-    ∙ ap (λ ds. insert_all same_text keys (flat_map (λ (c : Card). c.nodes) (map value ds))) (sym split)
+-- one step of a loop over cards: the nodes of one go first
+pub nodes_step : {R C : Type 0} (value : R → C) (nodes : C → List (List ℕ)) (keys new : List (List ℕ)) (cards : List R) (i : ℕ) (c : R) (whole : List (List ℕ)) → i < length cards → c ≡ get_or cards i c → new ≡ insert_all same_text keys (nodes (value c))
+    → insert_all same_text keys (flat_map nodes (map value (drop i cards))) ≡ whole → insert_all same_text new (flat_map nodes (map value (drop (i + 1) cards))) ≡ whole
+nodes_step value nodes keys new cards i c whole lt c_is new_is before =
+    let rest = flat_map nodes (map value (drop (i + 1) cards)) in
+    let split : drop i cards ≡ c ∷ drop (i + 1) cards = drop_more cards i c lt ∙ ap (λ d. d ∷ drop (i + 1) cards) (sym c_is) in
+    ap (λ ks. insert_all same_text ks rest) new_is
+    ∙ sym (fold-append (insert_key same_text) keys (nodes (value c)) rest)
+    ∙ ap (λ ds. insert_all same_text keys (flat_map nodes (map value ds))) (sym split)
     ∙ before
 
 -- at its end
-pub nodes_done : {R : Type 0} (value : R → Card) (keys : List (List ℕ)) (devices : List R) (i : ℕ) → length devices ≤ i → insert_all same_text keys (flat_map (λ (c : Card). c.nodes) (map value (drop i devices))) ≡ insert_all same_text [] (flat_map (λ (c : Card). c.nodes) (map value devices)) → keys ≡ nets_of (map value devices)
-nodes_done value keys devices i past done =
-    let none : drop i devices ≡ [] = drop_all i devices past in
-    let all : keys ≡ insert_all same_text [] (flat_map (λ (c : Card). c.nodes) (map value devices)) = ap (λ ds. insert_all same_text keys (flat_map (λ (c : Card). c.nodes) (map value ds))) (sym none) ∙ done in
-    names_inserted [] keys (flat_map (λ (c : Card). c.nodes) (map value devices)) refl all
+pub nodes_done : {R C : Type 0} (value : R → C) (nodes : C → List (List ℕ)) (keys : List (List ℕ)) (cards : List R) (i : ℕ) → length cards ≤ i → insert_all same_text keys (flat_map nodes (map value (drop i cards))) ≡ insert_all same_text [] (flat_map nodes (map value cards))
+    → keys ≡ once (flat_map nodes (map value cards))
+nodes_done value nodes keys cards i past done =
+    let none : drop i cards ≡ [] = drop_all i cards past in
+    let all : keys ≡ insert_all same_text [] (flat_map nodes (map value cards)) = ap (λ ds. insert_all same_text keys (flat_map nodes (map value ds))) (sym none) ∙ done in
+    names_inserted [] keys (flat_map nodes (map value cards)) refl all
 
 -- `0` and then the other rails
 pub rails_are_all : (start first keys rails : List (List ℕ)) (zero_name : List ℕ) → start ≡ [] → zero_name ≡ zero_rail → first ≡ insert_all same_text start (zero_name ∷ []) → keys ≡ insert_all same_text first rails → AreRails rails → keys ≡ all_rails rails

@@ -8,9 +8,12 @@ pub mod CircuitLaws
 pub mod PatternLaws
 pub mod PinLaws
 pub mod TableLaws
+pub mod RunTypes
+pub mod RunSizes
+pub mod ShapeLaws
 pub mod SoundLaws
-pub mod FitLaws
 pub mod FlatLaws
 pub mod CellLaws
 pub mod BuildLaws
+pub mod LevelLaws
 pub mod SampleLaws

@@ -9,16 +9,17 @@ use Rattle.std.proofs.lemmas.List.Elements.{Contains-get_or}
 use Rattle.gl_match.proofs.Lists.{Once, get_map, in_map, from_map, from_flat_map, in_head, in_tail}
 use Rattle.gl_match.proofs.Says.{all_says}
 use Rattle.gl_text.specs.LogicalLines.{same_text}
-use Rattle.gl_text.specs.Cards.{Device as Card}
-use Rattle.gl_text.specs.CellCards.{is_on_card}
+use Rattle.gl_text.specs.Decks.{Body, once, is_in as text_in}
 use Rattle.gl_match.specs.declared.role.Role.{Role}
 use Rattle.gl_match.specs.Graph.{Device, Pattern, is_some_at, is_in}
 use Rattle.gl_graph.specs.declared.fault.BuildFault.TheVariants.{BadRole, BadPort}
 use Rattle.gl_graph.specs.Faults.{first_in, is_placed, is_rail_of, is_bad_role, role_fault, port_fault}
-use Rattle.gl_base.specs.TypeNames.{TypeName}
-use Rattle.gl_base.specs.BaseCircuit.{nets_of, net_number, device_by}
+use Rattle.gl_base.specs.BaseCircuit.{net_number}
+use Rattle.gl_base.specs.Libraries.{nodes_of}
+use Rattle.gl_lifting.specs.Runs.{Run, card_device}
 use Rattle.gl_base.specs.Patterns.{role_by}
-use Rattle.gl_base.proofs.OnceLaws.{there, once_apart, position_back, position_there, place_within, place_back, place_at}
+use Rattle.gl_base.proofs.OnceLaws.{once_apart, position_back, position_there, place_within, place_back, place_at}
+use Rattle.gl_text.proofs.Names as text_names
 use Rattle.gl_base.proofs.TextLaws as text
 use Rattle.gl_lib.proofs.FaultLaws.{no_fault, none_from_start}
 
@@ -34,16 +35,16 @@ any_says p (x ∷ xs) e =
     ]
 
 -- each net stands on a device
-pub placed : (type : Card → TypeName) (types : List TypeName) (cards : List Card) (net : ℕ) → net < length (nets_of cards) → is_placed (map (device_by type types (nets_of cards)) cards) net ≡ true
-placed type types cards net lt =
-    let nets = nets_of cards in
+pub placed : (run : Run) (bs : List Body) (net : ℕ) → net < length (once (flat_map nodes_of bs)) → is_placed (map (card_device run (once (flat_map nodes_of bs))) bs) net ≡ true
+placed run bs net lt =
+    let nets = once (flat_map nodes_of bs) in
     let name = get_or nets net [] in
-    let stood = text.names_were (flat_map (λ (d : Card). d.nodes) cards) name (Contains-get_or nets net [] lt) in
-    let r = from_flat_map (λ (d : Card). d.nodes) cards name stood in
-    let dev : Device = device_by type types nets r.0 in
-    let number : net_number nets name ≡ net = place_at same_text text.exact text.itself nets net [] (text.each_once (flat_map (λ (d : Card). d.nodes) cards)) lt in
-    any_of (λ (d : Device). is_in d.nets net) (map (device_by type types nets) cards) dev (in_map (device_by type types nets) cards r.0 r.1)
-    (any_of (λ y. eqb y net) (map (net_number nets) r.0.nodes) (net_number nets name) (in_map (net_number nets) r.0.nodes name r.2) (eq-eqb (net_number nets name) net number))
+    let stood = text.names_were (flat_map nodes_of bs) name (Contains-get_or nets net [] lt) in
+    let r = from_flat_map nodes_of bs name stood in
+    let dev : Device = card_device run nets r.0 in
+    let number : net_number nets name ≡ net = place_at same_text text.exact text.itself nets net [] (text.each_once (flat_map nodes_of bs)) lt in
+    any_of (λ (d : Device). is_in d.nets net) (map (card_device run nets) bs) dev (in_map (card_device run nets) bs r.0 r.1)
+    (any_of (λ y. eqb y net) (map (net_number nets) (nodes_of r.0)) (net_number nets name) (in_map (net_number nets) (nodes_of r.0) name r.2) (eq-eqb (net_number nets name) net number))
 
 rail_says : (rail : ℕ) (a b : Option ℕ) → is_rail_of rail (role_by a b) ≡ true → a ≡ Some rail
 rail_says rail (Some r) b e = ap Some (eqb-true r rail e)
@@ -121,7 +122,7 @@ module _ (rails ports nets : List (List ℕ)) (once_nets : Once nets) (ports_sta
       (sym (back (get_or ports j []) (Contains-get_or ports j [] earlier)) ∙ ap (λ i. get_or nets i []) both ∙ back (get_or ports k []) (Contains-get_or ports k [] within)))))))
 
 -- each port that stands on a card is a net
-pub ports_are_nets : (cards : List Card) (ports : List (List ℕ)) → list_all (is_on_card cards) ports ≡ true → (port : List ℕ) → Contains ports port → Contains (nets_of cards) port
-ports_are_nets cards ports all port h =
-    let on : is_on_card cards port ≡ true = ap (is_on_card cards) (sym h.2) ∙ all_says (is_on_card cards) (λ p. is_on_card cards p ≡ true) (λ p e. e) ports all h.0 port h.1 in
-    text.names_stay (flat_map (λ (d : Card). d.nodes) cards) port (there same_text text.exact text.itself (flat_map (λ (d : Card). d.nodes) cards) port on)
+pub ports_are_nets : (bs : List Body) (ports : List (List ℕ)) → list_all (λ port. text_in port (flat_map nodes_of bs)) ports ≡ true → (port : List ℕ) → Contains ports port → Contains (once (flat_map nodes_of bs)) port
+ports_are_nets bs ports all port h =
+    let on : text_in port (flat_map nodes_of bs) ≡ true = ap (λ p. text_in p (flat_map nodes_of bs)) (sym h.2) ∙ all_says (λ p. text_in p (flat_map nodes_of bs)) (λ p. text_in p (flat_map nodes_of bs) ≡ true) (λ p e. e) ports all h.0 port h.1 in
+    text.names_stay (flat_map nodes_of bs) port (text_names.stands port (flat_map nodes_of bs) on)

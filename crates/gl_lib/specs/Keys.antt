@@ -17,7 +17,7 @@ abbrev pub name_in : TypeName → List ℕ
 name_in (of_word letter word) = word
 name_in (of_model letter model) = model
 name_in (of_letter letter) = []
-name_in (of_cell name ports) = name
+name_in (of_cell name classes) = name
 
 -- the first of two, if there is one, else the second
 abbrev pub first_of : Option (List ℕ) → Option (List ℕ) → Option (List ℕ)

@@ -4,3 +4,4 @@ pub mod Numbered
 pub mod Tables
 pub mod Samples
 pub mod Kept
+pub mod Texts

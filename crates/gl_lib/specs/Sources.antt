@@ -1,16 +1,23 @@
--- What is asked of a flat deck and a library of which circuit and patterns are made. This project's own.
-use Rattle.std.specs.Prelude.{◌==◌, ◌&&◌, ℕ, Bool, List, [], map, filter, flat_map, All}
+-- What is asked of a flat deck and a library of which circuit and cells are made. This project's own.
+use Rattle.std.specs.Prelude.{◌≡◌, ◌≤◌, List, [], length, map, flat_map, sum_by, zip, All}
+use Rattle.std.specs.List.{AllByRecursion}
+use Rattle.gl_text.specs.LogicalLines.{FILE}
 use Rattle.gl_text.specs.Cards.{Device as Card}
 use Rattle.gl_text.specs.Decks.{Sub}
 use Rattle.gl_text.specs.Flattening.{Flat}
-use Rattle.gl_text.specs.CellCards.{devices_in, IsCellOf}
+use Rattle.gl_text.specs.CellCards.{devices_in}
+use Rattle.gl_printed.specs.ReadDecks.{AllDiffer, FindsSub}
+use Rattle.gl_known.specs.Known.{sub_size}
 use Rattle.gl_match.specs.Graph.{Device}
 use Rattle.gl_base.specs.TypeNames.{TypeName}
 use Rattle.gl_base.specs.BaseCircuit.{type_number}
 use Rattle.gl_base.specs.Patterns.{IsSound}
-use Rattle.gl_base.specs.Libraries.{Cell, Library}
-use Rattle.gl_base.specs.Rounds.{source_of, cells_at, is_searched, searched}
+use Rattle.gl_base.specs.Libraries.{PORTS, Library}
+use Rattle.gl_base.specs.Rounds.{source_of, searched}
+use Rattle.gl_cells.specs.KnownLibraries.{IsSearchedCell}
 use Rattle.gl_flat.specs.Kept.{KeptDevice, kept_card}
+
+-- ---- a library
 
 -- the devices of each cell of a library, as cards
 abbrev pub cells_in : Library → List (List Card)
@@ -20,22 +27,27 @@ cells_in library = map (λ (s : Sub). devices_in s.cards) library.deck.subs
 abbrev pub cards_of_cells : List Sub → List Card
 cards_of_cells cells = flat_map (λ (s : Sub). devices_in s.cards) cells
 
--- a cell is searched in the round of a level
-abbrev pub is_searched_at : ℕ → Cell → Bool
-is_searched_at level cell = (cell.level == level) && is_searched cell.skip
+-- the cells that are searched, of all levels
+abbrev pub all_searched : Library → List Sub
+all_searched library = searched (zip library.deck.subs library.cells)
 
--- of some cells, those that are
-abbrev pub searched_among : ℕ → List (Sub × Cell) → List Sub
-searched_among level cells = map (λ c. c.0) (filter (λ c. is_searched_at level c.1) cells)
+-- a cell has cards, each port stands on one, and each X card calls a cell that is there, with as many ports as the card has nodes
+pub record IsWhole (cells : List Sub) (cell : Sub) : Type 0 where
+  pub searched : IsSearchedCell cell
+  pub calls : AllByRecursion (FindsSub cells) cell.cards
 
--- a cell has devices, and each port stands on one
-abbrev pub IsWhole : Sub → Type 0
-IsWhole cell = IsCellOf cell.head (devices_in cell.cards)
+-- each cell has a name of its own and few ports, and all together are no larger than a file; something is told of each; and those that are searched, at whatever level, are whole
+pub record HasWholeCells (library : Library) : Type 0 where
+  pub names_differ : AllDiffer (map (λ (s : Sub). s.head.name) library.deck.subs)
+  pub ports : All (λ (s : Sub). length s.head.ports ≤ PORTS) library.deck.subs
+  pub small : sum_by sub_size library.deck.subs ≤ FILE
+  pub as_many : length library.cells ≡ length library.deck.subs
+  pub whole : All (IsWhole library.deck.subs) (all_searched library)
 
--- circuit and patterns are made of them: the source is sound, and each cell that is searched at level 0 is whole
+-- circuit and cells are made of them: the source is sound, and each cell that is searched is whole
 pub record AreSound (f : Flat) (library : Library) : Type 0 where
   pub source : IsSound (source_of f library)
-  pub whole_cells : All IsWhole (searched (cells_at 0 library))
+  pub cells : HasWholeCells library
 
 -- ---- a flat device as a device
 

@@ -121,6 +121,13 @@ impl Kinds {
         TypeId(number as u32)
     }
 
+    /// How many there are.
+    pub fn count(&self) -> u32
+        ensures count { result ≡ length self.now }
+    {
+        self.set.len() as u32
+    }
+
     /// The shapes of the types, by their numbers.
     pub fn shapes(&self, alloc: Global) -> Result<Vec<Shape>, AllocError>
         ensures shapes { IfOk result (λ shapes. shapes.items ≡ map classes_of self.now) }

@@ -1,33 +1,33 @@
-//! The base of a run: its rails, the circuit of its flat deck, and the patterns of its cells of devices, exactly as they are defined.
+//! What a run is lifted with: its rails, the circuit of its flat deck, and the cells of its library with their patterns, exactly as they are defined.
 #![tactic(auto)]
 
-mod base;
 mod building;
+mod cards;
 mod cells;
 mod devices;
 mod fault;
 mod kept;
 mod kinds;
 mod laws;
+mod levels;
 mod names;
 mod parts;
 mod pinned;
 mod rails;
 mod roles;
+mod said;
+mod shapes;
 mod tables;
-#[cfg(test)]
-mod tests;
-#[cfg(test)]
-mod tests_kept;
 mod type_name;
 mod words;
 
-pub use base::{Base, circuit_of};
 pub use fault::KeepFault;
 pub use gl_card::{DevCard, Head, Letter, ModelCard, Name};
 pub use gl_cells::Library;
 pub use gl_flat::Flat;
 pub use laws::{
-    base_rows, kept_base_rows, run_rails_are_fine, sample_files_are_sound, sources_are_sound,
+    kept_level_rows, level_rows, run_rails_are_fine, runs_are_sound, sample_files_are_sound,
 };
+pub use levels::{Levels, levels_of};
 pub use rails::run_rails;
+pub use said::{keep_parts, unknown_keep_row};

@@ -1,12 +1,14 @@
-ghost use Rattle.std.specs.Prelude.{◌≡◌, ◌∷◌, ◌≤◌, ◌<◌, ◌^◌, [], length, map, IfOk, OnOk};
+ghost use Rattle.std.specs.Prelude.{◌≡◌, ◌∷◌, ◌≤◌, ◌<◌, ◌^◌, [], length, flat_map, IfOk, OnOk};
 ghost use Rattle.indexmap.specs.IndexSet.{insert_all};
 ghost use Rattle.gl_text.specs.LogicalLines.{same_text};
 ghost use Rattle.gl_text.specs.Decks.{once};
-ghost use Rattle.gl_text.specs.CellCards.{places_count};
+ghost use Rattle.gl_deck.specs.Bodies.{bodies_value};
 ghost use Rattle.gl_base.specs.Rails.{all_rails, AreRails};
-ghost use Rattle.gl_base.specs.BaseCircuit.{nets_of};
+ghost use Rattle.gl_base.specs.Libraries.{nodes_of as nodes_on};
 
-use gl_card::{DevCard, Name};
+use crate::cards::nodes_of;
+use gl_card::Name;
+use gl_cells::Body;
 use gl_flat::Names;
 use indexmap::IndexSet;
 use std::alloc::{AllocError, Global};
@@ -54,14 +56,15 @@ pub fn rail_table(alloc: Global, rails: &[Name]) -> Result<Names, AllocError>
     Ok(Names::of_set(set))
 }
 
-/// The nets of devices, each once in order of first appearance, place by place.
-pub fn net_table(alloc: Global, devices: &[&DevCard]) -> Result<Names, AllocError>
-    requires { places_count (map (λ d. d.now) devices.now) < 2 ^ 32 }
-    ensures nets { IfOk result (λ nets. nets ≡ nets_of (map (λ d. d.now) devices.now)) }
+/// The nets on cards, each once in order of first appearance, place by place.
+pub fn net_table(alloc: Global, cards: &[Body]) -> Result<Names, AllocError>
+    requires few { length (flat_map nodes_on (bodies_value cards.now)) < 2 ^ 32 }
+    ensures nets { IfOk result
+        (λ nets. nets ≡ once (flat_map nodes_on (bodies_value cards.now))) }
 {
     let mut set = IndexSet::new(alloc);
-    for device in devices {
-        add_names(alloc, &mut set, device.nodes())?;
+    for card in cards {
+        add_names(alloc, &mut set, nodes_of(card))?;
     }
     Ok(Names::of_set(set))
 }

@@ -4,8 +4,10 @@ ghost use Rattle.std.specs.Option.{option_copied};
 ghost use Rattle.gl_text.specs.LogicalLines.{same_text};
 ghost use Rattle.gl_text.specs.Decks.{once};
 ghost use Rattle.gl_text.specs.Flattening.{top_ports};
+ghost use Rattle.gl_lifting.specs.Runs.{run_of, first_circuit};
 
 use crate::names::add_names;
+use crate::parts::Parts;
 use gl_card::{Head, Name};
 use gl_flat::Names;
 use gl_graph::NetId;
@@ -47,7 +49,7 @@ fn nets_among(alloc: Global, names: &[Name], nets: &Names) -> Result<Vec<NetId>,
 }
 
 /// The nets of the ports of a top and then those of the kept names, each once, but of names that stand on no device.
-pub fn pinned_nets(
+fn pinned_nets(
     alloc: Global,
     top: Option<&Head>,
     keep: &[Name],
@@ -57,4 +59,14 @@ pub fn pinned_nets(
 {
     let names = pinned_names(alloc, top, keep)?;
     nets_among(alloc, names.as_slice(), nets)
+}
+
+/// The pinned nets of a run's first circuit.
+pub fn run_pins(alloc: Global, parts: &Parts, keep: &[Name]) -> Result<Vec<NetId>, AllocError>
+    ensures pins { IfOk result (λ pins. pins.items
+        ≡ (first_circuit (run_of parts.now.flat.now parts.now.library.now keep.now)).pinned) }
+{
+    let flat = parts.flat;
+    let pins = pinned_nets(alloc, flat.top(), keep, flat.nets())?;
+    Ok(pins)
 }

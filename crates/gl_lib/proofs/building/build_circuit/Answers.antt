@@ -1,14 +1,11 @@
 use Rattle.std.proofs.Common.{◌∙◌, sym, subst}
 use Rattle.std.specs.Prelude.{All}
-use Rattle.std.specs.Option.{option_copied}
 use Rattle.indexmap.specs.IndexMap.{get}
 use Rattle.gl_text.specs.LogicalLines.{same_text}
 use Rattle.gl_base.specs.TypeNames.{type_by}
-use Rattle.gl_base.specs.Keeping.{keeping}
 use Rattle.gl_lib.specs.Numbered.{IsAmongTypes}
 use Rattle.gl_lib.specs.Tables.{source_of}
 use Rattle.gl_lib.proofs.FlatLaws.{flat_among}
-use Rattle.gl_lib.proofs.SoundLaws.{keeping_sound}
 use Rattle.gl_lib.proofs.BuildLaws.{only_memory, flat_by_tables, circuit_is, circuit_few, circuit_unrefused}
 use Rattle.gl_lib.proofs.building.build_circuit.Goals as goal
 
@@ -24,19 +21,19 @@ build-requires c =
     let p = c.args.parts.now in
     let t = c.args.tables.now in
     let given = circuit_is p.flat.now p.library.now c.args.keep.now (get same_text t.words) t.kinds c.requires.tables.words_are c.requires.tables.kinds_are
-    c.nets-nets.result.now t.rails c.items.result.now c.args.shapes.items c.devices.result.now c.in_ok-devices.devices.items c.count.result c.in_ok-rails.rails.items c.in_ok-pinned.pinned.items (option_copied c.top.result)
-    c.nets-nets.ensures.nets c.items.ensures.items c.requires.tables.rails_are c.requires.shapes c.devices.ensures.devices c.top.ensures.top
-    c.in_ok-devices.ensures.devices c.count.ensures.count c.in_ok-rails.ensures.nets c.in_ok-pinned.ensures.pinned in
-    record { size = circuit_few (keeping c.args.keep.now (source_of p)) (keeping_sound c.args.keep.now (source_of p) c.requires.sound.source) _ given }
+    c.nets-nets.result.now t.rails c.items.result.now c.args.shapes.items c.devices.result.now c.in_ok-devices.devices.items c.count.result c.in_ok-rails.rails.items c.args.pinned.items
+    c.nets-nets.ensures.nets c.items.ensures.items c.requires.tables.rails_are c.requires.shapes c.devices.ensures.devices
+    c.in_ok-devices.ensures.devices c.count.ensures.count c.in_ok-rails.ensures.nets c.requires.pinned in
+    record { size = circuit_few p.flat.now p.library.now c.requires.sound c.args.keep.now _ given }
 
 pub returns-in-Ok : goal.returns-in-Ok
 returns-in-Ok c =
     let p = c.args.parts.now in
     let t = c.args.tables.now in
     let given = circuit_is p.flat.now p.library.now c.args.keep.now (get same_text t.words) t.kinds c.requires.tables.words_are c.requires.tables.kinds_are
-    c.nets-nets.result.now t.rails c.items.result.now c.args.shapes.items c.devices.result.now c.in_ok-devices.devices.items c.count.result c.in_ok-rails.rails.items c.in_ok-pinned.pinned.items (option_copied c.top.result)
-    c.nets-nets.ensures.nets c.items.ensures.items c.requires.tables.rails_are c.requires.shapes c.devices.ensures.devices c.top.ensures.top
-    c.in_ok-devices.ensures.devices c.count.ensures.count c.in_ok-rails.ensures.nets c.in_ok-pinned.ensures.pinned in
+    c.nets-nets.result.now t.rails c.items.result.now c.args.shapes.items c.devices.result.now c.in_ok-devices.devices.items c.count.result c.in_ok-rails.rails.items c.args.pinned.items
+    c.nets-nets.ensures.nets c.items.ensures.items c.requires.tables.rails_are c.requires.shapes c.devices.ensures.devices
+    c.in_ok-devices.ensures.devices c.count.ensures.count c.in_ok-rails.ensures.nets c.requires.pinned in
     record { circuit = c.in-Ok.ensures.answer.0 ∙ given }
 
 pub want_of_memory-requires : goal.want_of_memory-requires
@@ -44,7 +41,7 @@ want_of_memory-requires c =
     let p = c.args.parts.now in
     let t = c.args.tables.now in
     let given = circuit_is p.flat.now p.library.now c.args.keep.now (get same_text t.words) t.kinds c.requires.tables.words_are c.requires.tables.kinds_are
-    c.nets-nets.result.now t.rails c.items.result.now c.args.shapes.items c.devices.result.now c.in_ok-devices.devices.items c.count.result c.in_ok-rails.rails.items c.in_ok-pinned.pinned.items (option_copied c.top.result)
-    c.nets-nets.ensures.nets c.items.ensures.items c.requires.tables.rails_are c.requires.shapes c.devices.ensures.devices c.top.ensures.top
-    c.in_ok-devices.ensures.devices c.count.ensures.count c.in_ok-rails.ensures.nets c.in_ok-pinned.ensures.pinned in
-    only_memory _ _ (circuit_unrefused (keeping c.args.keep.now (source_of p)) (keeping_sound c.args.keep.now (source_of p) c.requires.sound.source) _ given) c.in-Err.ensures.answer
+    c.nets-nets.result.now t.rails c.items.result.now c.args.shapes.items c.devices.result.now c.in_ok-devices.devices.items c.count.result c.in_ok-rails.rails.items c.args.pinned.items
+    c.nets-nets.ensures.nets c.items.ensures.items c.requires.tables.rails_are c.requires.shapes c.devices.ensures.devices
+    c.in_ok-devices.ensures.devices c.count.ensures.count c.in_ok-rails.ensures.nets c.requires.pinned in
+    only_memory _ _ (circuit_unrefused p.flat.now p.library.now c.requires.sound c.args.keep.now _ given) c.in-Err.ensures.answer

@@ -1,22 +1,20 @@
-use Rattle.std.proofs.Common.{◌∙◌, ap, arith, map, flat_map}
+use Rattle.std.proofs.Common.{◌∙◌, ap, flat_map}
 use Rattle.indexmap.specs.IndexSet.{insert_all}
 use Rattle.gl_text.specs.LogicalLines.{same_text}
-use Rattle.gl_text.specs.Cards.{Device as Card}
-use Rattle.gl_lib.proofs.InsertLaws.{nodes_step, nodes_done, few_names, places_are}
+use Rattle.gl_deck.specs.Bodies.{body_value, bodies_value}
+use Rattle.gl_base.specs.Libraries.{nodes_of}
+use Rattle.gl_lib.proofs.InsertLaws.{nodes_step, nodes_done, few_names}
 use Rattle.gl_lib.proofs.names.net_table.Goals as goal
 
 pub of_set-requires : goal.of_set-requires
 of_set-requires c =
-    let cards = map (λ d. d.now) c.args.devices.now in
-    record {
-      few = few_names _ (flat_map (λ (d : Card). d.nodes) cards) _ (nodes_done (λ d. d.now) _ _ _ c.loop-device-test.false c.loop-device.invariant) (omega (arith, places_are cards, c.requires));
-    }
+    record { few = few_names _ (flat_map nodes_of (bodies_value c.args.cards.now)) _ (nodes_done body_value nodes_of _ _ _ c.loop-card-test.false c.loop-card.invariant) c.requires.few }
 
 pub returns : goal.returns
-returns c = record { nets = c.of_set.ensures.names ∙ nodes_done (λ d. d.now) _ _ _ c.loop-device-test.false c.loop-device.invariant }
+returns c = record { nets = c.of_set.ensures.names ∙ nodes_done body_value nodes_of _ _ _ c.loop-card-test.false c.loop-card.invariant }
 
-pub loop-device-preserved : goal.loop-device-preserved
-loop-device-preserved c =
-    nodes_step (λ d. d.now) _ _ _ _ c.device-item.result _ c.loop-device-test.true c.device-item.is
-    (c.in_ok-add_names.ensures.added ∙ ap (insert_all same_text c.loop-device.set.keys) c.nodes.ensures.nodes)
-    c.loop-device.invariant
+pub loop-card-preserved : goal.loop-card-preserved
+loop-card-preserved c =
+    nodes_step body_value nodes_of _ _ _ _ c.card-item.result _ c.loop-card-test.true c.card-item.is
+    (c.in_ok-add_names.ensures.added ∙ ap (insert_all same_text c.loop-card.set.keys) c.nodes_of.ensures.nodes)
+    c.loop-card.invariant
