@@ -1,24 +1,14 @@
--- What it means that a base was made, or that a name is unknown, of the flat deck that is lifted.
-use Rattle.std.proofs.Common.{◌≡◌, ℕ, List, Option, None, Some, refl, sym, ap, ◌∙◌, subst}
+-- What it means that a kept name is unknown, or none is, of the flat deck that is lifted.
+use Rattle.std.proofs.Common.{◌≡◌, ℕ, List, Option, None, Some, ap, ◌∙◌}
 use Rattle.std.specs.Prelude.{Result, Ok, Err}
 use Rattle.std.specs.Option.{option_map}
-use Rattle.gl_fault.specs.Refusals.{IsRefusal, or_else}
+use Rattle.gl_fault.specs.Refusals.{IsRefusal, IsFound, or_else}
 use Rattle.gl_text.specs.LogicalLines.{Fault}
 use Rattle.gl_text.specs.Flattening.{Flat}
 use Rattle.gl_base.specs.Libraries.{Library}
 use Rattle.gl_base.specs.Rounds.{source_of}
-use Rattle.gl_base.specs.Keeping.{unknown_keep, base_keeping}
-use Rattle.gl_lift.specs.Lifting.{LiftCause, of_flat, of_keep, unless_unknown}
-
--- a value that is given is the wanted one, and nothing refuses it
-pub given_else : {F A : Type 0} (found : Option F) (x y : A) → or_else found x ≡ Ok y → (found ≡ None) × (y ≡ x)
-given_else None x y h = let same : x ≡ y = cc in (refl, sym same)
-given_else (Some f) x y h = absurd cc
-
--- a refusal that is given is the one that there is
-refused_else : {F A : Type 0} (found : Option F) (x : A) (f : F) → or_else found x ≡ Err f → found ≡ Some f
-refused_else None x f h = absurd cc
-refused_else (Some g) x f h = let same : g ≡ f = cc in ap Some same
+use Rattle.gl_base.specs.Keeping.{unknown_keep}
+use Rattle.gl_lift.specs.Lifting.{of_flat, of_keep, unless_unknown}
 
 -- no flat deck
 pub flat_refused : (keep : List (List ℕ)) (library : Library) (given : Option Fault) (wanted : Result Flat Fault) → IsRefusal given wanted → IsRefusal (option_map of_flat given) (unless_unknown keep library wanted)
@@ -30,8 +20,6 @@ pub flat_known : (keep : List (List ℕ)) (library : Library) (flat : Flat) (wan
 flat_known keep library flat wanted is known = ap (unless_unknown keep library) is ∙ ap (λ (u : Option (List ℕ)). or_else (option_map of_keep u) flat) known
 
 -- a flat deck, and a name is unknown
-pub keep_refused : (keep : List (List ℕ)) (library : Library) (flat : Flat) (wanted : Result Flat Fault) (given : Option (List ℕ)) → wanted ≡ Ok flat → IsRefusal given (base_keeping keep (source_of flat library) library) → IsRefusal (option_map of_keep given) (unless_unknown keep library wanted)
+pub keep_refused : (keep : List (List ℕ)) (library : Library) (flat : Flat) (wanted : Result Flat Fault) (given : Option (List ℕ)) → wanted ≡ Ok flat → IsFound given (unknown_keep keep (source_of flat library)) → IsRefusal (option_map of_keep given) (unless_unknown keep library wanted)
 keep_refused keep library flat wanted None is h = tt
-keep_refused keep library flat wanted (Some name) is h =
-    let found : unknown_keep keep (source_of flat library) ≡ Some name = refused_else (unknown_keep keep (source_of flat library)) _ name h in
-    ap (unless_unknown keep library) is ∙ ap (λ (u : Option (List ℕ)). or_else (option_map of_keep u) flat) found
+keep_refused keep library flat wanted (Some name) is h = ap (unless_unknown keep library) is ∙ ap (λ (u : Option (List ℕ)). or_else (option_map of_keep u) flat) h

@@ -3,5 +3,5 @@ pub mod Sound
 pub mod CellsWhole
 pub mod ReadFiles
 pub mod Plain
-pub mod Named
+pub mod Headline
 pub mod Kept

@@ -1,5 +1,5 @@
 pub mod Lifting
+pub mod LiftedRuns
 pub mod FlatParts
 pub mod Liftable
-pub mod Reported
 pub mod Refusals

@@ -1,19 +1,24 @@
--- What the job `lift` writes of a deck and a library with a top or none and with kept names: the report of one round over the searched cells of level 0. This project's own.
-use Rattle.std.specs.Prelude.{◌≡◌, ℕ, List, length, map, Option, Result, Ok, Err, option_map}
+-- What the job `lift` writes of a deck and a library with a top or none and with kept names: the report of all rounds. This project's own.
+use Rattle.std.specs.Prelude.{◌≡◌, ℕ, List, Option, Result, Ok, Err, option_map}
+use Rattle.std.specs.List.{AllZip}
 use Rattle.gl_fault.specs.Refusals.{or_else}
 use Rattle.gl_text.specs.LogicalLines.{Fault}
 use Rattle.gl_text.specs.Decks.{Deck}
 use Rattle.gl_text.specs.Flattening.{Flat, flatten}
 use Rattle.gl_match.specs.declared.role.Pick.{Pick}
-use Rattle.gl_match.specs.Listing.{Instance}
+use Rattle.gl_match.specs.Graph.{Circuit, Pattern}
+use Rattle.gl_match.specs.Listing.{Instance, Listed}
+use Rattle.gl_match.specs.Choice.{IsChoice, IsChosen, Meet, joined, sets_of}
 use Rattle.gl_base.specs.Libraries.{Library}
 use Rattle.gl_base.specs.Rails.{run_rails}
-use Rattle.gl_base.specs.BaseCircuit.{Source, circuit_of}
-use Rattle.gl_base.specs.Keeping.{keeping, unknown_keep}
+use Rattle.gl_base.specs.Keeping.{unknown_keep}
 use Rattle.gl_base.specs.Stems.{IsStem, names_in}
-use Rattle.gl_base.specs.Rounds.{source_of, cells_at, searched, cell_pattern, IsRound}
-use Rattle.gl_base.specs.RoundReports.{rounds_of, left_of, report_text}
-pub use Rattle.gl_base.specs.Lifting.{LibraryCause, refused, not_yet, first_call, without_calls, taken_library, run_names, first_round}
+use Rattle.gl_base.specs.Rounds.{source_of}
+use Rattle.gl_lifting.specs.Runs.{Run, run_of}
+use Rattle.gl_lifting.specs.Histories.{History, IsHistory, AreRounds}
+use Rattle.gl_lifting.specs.HistoryReports.{history_report}
+
+-- ---- what is lifted
 
 -- the flat deck of a deck, with a top or none, and with the rails of the run: the deck's globals, and then the library's
 abbrev pub flat_deck : Option (List ℕ) → Deck → Library → Result Flat Fault
@@ -33,15 +38,33 @@ unless_unknown keep library (Err fault) = Err (of_flat fault)
 abbrev pub lifted_flat : Option (List ℕ) → List (List ℕ) → Deck → Library → Result Flat LiftCause
 lifted_flat top keep deck library = unless_unknown keep library (flat_deck top deck library)
 
--- the text is the report of the complete lists of all searched cells of level 0 in the circuit of a source, and of the choice over them
-pub record IsReport (s : Source) (flat : Flat) (library : Library) (text : List ℕ) : Type 0 where
-  pub lists : List (List Instance)
-  pub picks : List (List Pick)
+-- ---- what is so of each round
+
+-- each searched cell of the round's level has its complete list against the round's circuit
+abbrev pub AreComplete : Circuit → ℕ → List Pattern → List (List Instance) → List (List Pick) → Type 0
+AreComplete c first patterns lists picks = AllZip (Listed c) patterns lists
+
+-- the picks are the choice over all lists of the round, with numbers from the first
+abbrev pub AreChoice : Circuit → ℕ → List Pattern → List (List Instance) → List (List Pick) → Type 0
+AreChoice c first patterns lists picks = IsChoice first (sets_of lists) picks
+
+-- no two instances that are chosen in the round have a device in common
+abbrev pub AreApart : Circuit → ℕ → List Pattern → List (List Instance) → List (List Pick) → Type 0
+AreApart c first patterns lists picks = (i j k l : ℕ) → IsChosen (joined picks) i k → IsChosen (joined picks) j l → Meet (joined (sets_of lists)) i j → i ≡ j
+
+-- ---- what is written
+
+-- the text is the report of the history of a run: in each of its rounds lists are complete, picks are the choice, and no two chosen instances have a device in common
+pub record IsReport (run : Run) (flat : Flat) (text : List ℕ) : Type 0 where
+  pub history : History
+  pub history_is : IsHistory run history
+  pub complete : AreRounds AreComplete run history
+  pub choice : AreRounds AreChoice run history
+  pub apart : AreRounds AreApart run history
   pub stem : List ℕ
-  pub round : IsRound (circuit_of s) 1 (map (cell_pattern s) (searched (cells_at 0 library))) lists picks
   pub stem_is : IsStem (names_in flat) stem
-  pub text_is : text ≡ report_text (run_names flat stem) (rounds_of library.cells (first_round flat library lists picks)) (left_of (length flat.devices) lists picks)
+  pub text_is : text ≡ history_report stem flat run.library history
 
 -- the text is the report of a flat deck, in whose circuit the nets of these names are kept
 abbrev pub IsLiftReport : List (List ℕ) → Library → Flat → List ℕ → Type 0
-IsLiftReport keep library flat text = IsReport (keeping keep (source_of flat library)) flat library text
+IsLiftReport keep library flat text = IsReport (run_of flat library keep) flat text

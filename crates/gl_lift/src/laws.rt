@@ -5,10 +5,10 @@ ghost use Rattle.gl_text.specs.Decks.{Deck, read_deck};
 ghost use Rattle.gl_text.specs.Flattening.{Flat, flatten};
 ghost use Rattle.gl_known.specs.Known.{IsKnownDeck};
 ghost use Rattle.gl_base.specs.Rails.{run_rails};
-ghost use Rattle.gl_base.specs.Libraries.{Library};
+ghost use Rattle.gl_base.specs.Libraries.{Library, read_library};
 ghost use Rattle.gl_base.specs.Keeping.{unknown_keep};
 ghost use Rattle.gl_base.specs.Rounds.{source_of};
-ghost use Rattle.gl_lift.specs.Lifting.{IsLiftReport, taken_library};
+ghost use Rattle.gl_lift.specs.Lifting.{IsLiftReport};
 ghost use Rattle.gl_flat.specs.PlainFlats.{plain};
 ghost use Rattle.gl_cells.specs.KnownLibraries.{IsKnownLibrary};
 ghost use Rattle.gl_lib.specs.Sources.{AreSound};
@@ -20,16 +20,15 @@ pub fn read_values_are_lifted()
     ensures library { (library : Library) → IsKnownLibrary library → IsSearchable library }
 {}
 
-/// A deck that was read from a file is lifted, and a library that is taken from a file is searched.
-pub fn taken_files_are_lifted()
+/// A deck that was read from a file is lifted, and a library that was read from a file is searched.
+pub fn read_files_are_lifted()
     ensures deck { (bytes : List ℕ) (deck : Deck)
         → length bytes ≤ FILE → read_deck true bytes ≡ Ok deck → IsLiftable deck }
     ensures library { (bytes : List ℕ) (library : Library)
-        → length bytes ≤ FILE → taken_library bytes ≡ Ok library → IsSearchable library }
+        → length bytes ≤ FILE → read_library bytes ≡ Ok library → IsSearchable library }
 {}
 
-/// Of the flat deck of a deck that is lifted, whatever its top, and of a library that is searched, circuit and patterns are
-/// made.
+/// Of the flat deck of a deck that is lifted, whatever its top, and of a library that is searched, circuit and cells are made.
 pub fn flat_decks_are_sound()
     ensures sound { (deck : Deck) (library : Library) (top : Option (List ℕ)) (flat : Flat)
         → IsLiftable deck → IsSearchable library

@@ -1,4 +1,4 @@
-//! From a deck and a library to the report: the deck flattened, its circuit, the round, and the text.
+//! From a deck and a library to the report: the deck flattened, its circuit, all rounds, and the text.
 #![tactic(auto)]
 
 mod fault;
@@ -10,6 +10,6 @@ pub use gl_cells::{Deck, LibFault, Library};
 pub use gl_flat::FlatFault;
 pub use gl_lib::KeepFault;
 pub use laws::{
-    flat_decks_are_sound, plain_reports_are_reports, read_values_are_lifted, taken_files_are_lifted,
+    flat_decks_are_sound, plain_reports_are_reports, read_files_are_lifted, read_values_are_lifted,
 };
 pub use report::report_of;

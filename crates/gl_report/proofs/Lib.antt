@@ -1,9 +1,4 @@
 pub mod PartLaws
 pub mod LineLaws
 pub mod ListLaws
-pub mod RestLaws
-pub mod MarkLaws
-pub mod CountLaws
-pub mod NamedLaws
-pub mod BelowLaws
-pub mod RoundLaws
+pub mod ShownLaws

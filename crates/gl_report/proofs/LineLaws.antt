@@ -7,7 +7,8 @@ use Rattle.std.proofs.lemmas.List.Concat.{flat_map-append}
 use Rattle.gl_match.specs.declared.spot.Spot.{Spot}
 use Rattle.gl_text.specs.Decks.{Body}
 use Rattle.gl_base.specs.Reports.{line, parts, name_at}
-use Rattle.gl_report.specs.Pieces.{behind_blanks, spot_parts}
+use Rattle.gl_base.specs.RoundReports.{card_name}
+use Rattle.gl_report.specs.Pieces.{behind_blanks}
 
 -- a word, and the others each behind a blank
 pub joined : (word : List ℕ) (words : List (List ℕ)) → join_with_byte 32 (word ∷ words) ≡ word ++ behind_blanks words
@@ -45,9 +46,20 @@ cell_printed out a b c name ports instances chosen f g h =
     let pieces : c ≡ ((out ++ counts) ++ codes " chosen ") ++ chosen = h ∙ ap (λ t. t ++ chosen) (g ∙ ap (λ t. t ++ codes " chosen ") f) in
     ap (λ t. t ++ codes "\n") pieces ∙ simp append_assoc
 
+-- the cards with their images, by spots of the circuit's devices
+abbrev pub images_by : List (List ℕ) → List Body → List Spot → List (List ℕ)
+images_by devices cards spots = parts (map card_name cards) (map (λ (s : Spot). name_at devices s.dev) spots)
+
 -- parts of equal names and images
 pub same_ports : (ports ports' nets nets' : List (List ℕ)) (binding binding' : List ℕ) → ports ≡ ports' → nets ≡ nets' → binding ≡ binding' → parts ports (map (name_at nets) binding) ≡ parts ports' (map (name_at nets') binding')
 same_ports ports ports' nets nets' binding binding' a b c = ap (λ ps. parts ps (map (name_at nets) binding)) a ∙ (ap (λ ns. parts ports' (map (name_at ns) binding)) b ∙ ap (λ bs. parts ports' (map (name_at nets') bs)) c)
 
-pub same_images : (devices devices' : List (List ℕ)) (cards cards' : List Body) (least least' : List Spot) → devices ≡ devices' → cards ≡ cards' → least ≡ least' → spot_parts devices cards least ≡ spot_parts devices' cards' least'
-same_images devices devices' cards cards' least least' a b c = ap (λ ds. spot_parts ds cards least) a ∙ (ap (λ bs. spot_parts devices' bs least) b ∙ ap (λ ss. spot_parts devices' cards' ss) c)
+pub same_images : (devices : List (List ℕ)) (cards cards' : List Body) (least least' : List Spot) → cards ≡ cards' → least ≡ least' → images_by devices cards least ≡ images_by devices cards' least'
+same_images devices cards cards' least least' a b = ap (λ bs. images_by devices bs least) a ∙ ap (λ ss. images_by devices cards' ss) b
+
+-- the text of a round, by its pieces
+pub round_printed : (out a b c text number lines : List ℕ) → a ≡ out ++ codes "round " → b ≡ a ++ number → c ≡ b ++ codes "\n" → text ≡ c ++ lines → text ≡ out ++ (line (codes "round" ∷ number ∷ []) ++ lines)
+round_printed out a b c text number lines f g h i =
+    let pieces : text ≡ (((out ++ codes "round ") ++ number) ++ codes "\n") ++ lines = i ∙ ap (λ t. t ++ lines) (h ∙ ap (λ t. t ++ codes "\n") (g ∙ ap (λ t. t ++ number) f)) in
+    let whole : text ≡ out ++ ((codes "round " ++ (number ++ codes "\n")) ++ lines) = pieces ∙ simp append_assoc in
+    whole

@@ -1,7 +1,12 @@
 -- Parts, one after another.
-use Rattle.std.proofs.Common.{◌≡◌, ℕ, zero, suc, ◌+◌, ◌<◌, ◌≤◌, List, [], ◌∷◌, ◌++◌, length, take, get_or, refl, sym, ap, ◌∙◌, arith, length-append}
-use Rattle.std.proofs.lemmas.List.{flat_map_more, take_all, take-take, take_at}
-use Rattle.gl_base.specs.Reports.{part, parts}
+use Rattle.std.proofs.Common.{◌≡◌, ℕ, zero, suc, ◌+◌, ◌<◌, ◌≤◌, List, [], ◌∷◌, ◌++◌, length, take, get_or, refl, sym, ap, ◌∙◌, arith, length-append, min, map}
+use Rattle.std.specs.Prelude.{zip}
+use Rattle.std.proofs.lemmas.List.{flat_map_more, take_all, take-take, take_at, length-map, get_or-map}
+use Rattle.std.proofs.lemmas.Slice.Zip.{length-zip}
+use Rattle.gl_base.specs.Reports.{name_at, part, parts}
+use Rattle.gl_lifting.specs.Replacement.{Origin}
+use Rattle.gl_history.specs.Plain.{origin_value}
+use Rattle.gl_history.specs.declared.origin.Origin as declared
 use Rattle.gl_report.specs.Pieces.{behind_blanks}
 
 -- the first parts and the next
@@ -10,12 +15,6 @@ parts_next [] images k in_names in_images = absurd (omega (arith, in_names))
 parts_next (name ∷ names) [] k in_names in_images = absurd (omega (arith, in_images))
 parts_next (name ∷ names) (image ∷ images) zero in_names in_images = refl
 parts_next (name ∷ names) (image ∷ images) (suc k) in_names in_images = ap (λ ws. part (name, image) ∷ ws) (parts_next names images k (omega (arith, in_names)) (omega (arith, in_images)))
-
--- as many as there are names
-length_parts : (names images : List (List ℕ)) → length images ≡ length names → length (parts names images) ≡ length names
-length_parts [] images e = refl
-length_parts (name ∷ names) [] e = absurd (omega (arith, e))
-length_parts (name ∷ names) (image ∷ images) e = ap suc (length_parts names images (omega (arith, e)))
 
 -- a turn of a loop prints one more part
 pub parts_step : (names images : List (List ℕ)) (k n : ℕ) (out before after name image : List ℕ) → k < length names → k < length images → n ≡ k + 1 → name ≡ get_or names k [] → image ≡ get_or images k [] → before ≡ out ++ behind_blanks (take k (parts names images)) → after ≡ before ++ 32 ∷ part (name, image) → after ≡ out ++ behind_blanks (take n (parts names images))
@@ -29,8 +28,8 @@ parts_step names images k n out before after name image in_names in_images next 
     ∙ ap (λ ws. out ++ behind_blanks ws) (sym (parts_next names images k in_names in_images) ∙ ap (λ m. take m (parts names images)) (sym is_next)))))
 
 -- the last turn has printed them all
-pub parts_all : (names images : List (List ℕ)) (k : ℕ) (out text : List ℕ) → length images ≡ length names → length names ≤ k → text ≡ out ++ behind_blanks (take k (parts names images)) → text ≡ out ++ behind_blanks (parts names images)
-parts_all names images k out text as_many all is = is ∙ ap (λ ws. out ++ behind_blanks ws) (take_all k (parts names images) (omega (arith, length_parts names images as_many, all)))
+pub parts_all : (names images : List (List ℕ)) (k : ℕ) (out text : List ℕ) → k ≡ min (length names) (length images) → text ≡ out ++ behind_blanks (take k (parts names images)) → text ≡ out ++ behind_blanks (parts names images)
+parts_all names images k out text all is = is ∙ ap (λ ws. out ++ behind_blanks ws) (take_all k (parts names images) (omega (arith, length-map (zip names images) part, length-zip names images, all)))
 
 -- what was appended to what began with the text before still begins with it
 pub front_stays : (out middle after more : List ℕ) → middle ≡ out ++ more → take (length middle) after ≡ middle → take (length out) after ≡ out
@@ -38,3 +37,9 @@ front_stays out middle after more is stays =
     let short : length out ≤ length middle = omega (arith, ap length is, length-append out more) in
     let cut : take (length out) (take (length middle) after) ≡ take (length out) after = take-take (length out) (length middle) after short in
     sym cut ∙ (ap (take (length out)) (stays ∙ is) ∙ take_at out more (length out) refl)
+
+-- the name of a device, by where it comes from
+pub origin_named : (f : Origin → List ℕ) (os : List declared.Origin) (i : ℕ) (o : declared.Origin) → i < length os → o ≡ get_or os i o → f (origin_value o) ≡ name_at (map f (map origin_value os)) i
+origin_named f os i o lt is =
+    let within : i < length (map origin_value os) = omega (arith, length-map os origin_value, lt) in
+    ap (λ (x : declared.Origin). f (origin_value x)) is ∙ (sym (ap f (get_or-map origin_value os i o (origin_value o) lt)) ∙ sym (get_or-map f (map origin_value os) i (origin_value o) [] within))

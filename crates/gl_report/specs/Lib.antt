@@ -1,3 +1,3 @@
 pub mod Naming
+pub mod Shown
 pub mod Pieces
-pub mod Marks

@@ -4,9 +4,8 @@ ghost use Rattle.std.specs.List.{join_with_byte};
 ghost use Rattle.gl_base.specs.Reports.{line, cell_words};
 ghost use Rattle.gl_base.specs.RoundReports.{found_words, reason_words};
 ghost use Rattle.gl_cells.specs.Skips.{skip_value};
-ghost use Rattle.gl_report.specs.Naming.{IsNamed};
 
-use crate::Names;
+use crate::names::RoundNames;
 use crate::parts::{put_images, put_ports};
 use crate::words::{put, put_fate, put_number, put_reason};
 use gl_cells::Skip;
@@ -61,13 +60,12 @@ pub fn put_skipped(out: &mut Vec<u8>, name: &[u8], skip: &Skip) -> Result<(), Me
 /// Appends the line of an instance of a cell, with its number and its pick.
 pub fn put_instance(
     out: &mut Vec<u8>,
-    names: &Names<'_>,
+    names: &RoundNames<'_>,
     cell: &Sub,
     number: usize,
     item: &Instance,
     pick: Pick,
 ) -> Result<(), Memory>
-    requires named { IsNamed names.now cell.now item.now }
     ensures ok { OnOk result (out.new.items ≡ out.old.items
         ++ line (found_words names.now.run names.now.devices cell.now (number, (item.now, pick)))) }
     ensures front { take (length out.old.items) out.new.items ≡ out.old.items }
@@ -82,6 +80,6 @@ pub fn put_instance(
         &key.binding,
     )?;
     put(out, b" |")?;
-    put_images(out, cell.cards(), names.flat.devices(), &item.least)?;
+    put_images(out, names, cell.cards(), &item.least)?;
     put(out, b"\n")
 }

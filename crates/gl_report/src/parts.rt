@@ -1,16 +1,31 @@
-ghost use Rattle.std.specs.Prelude.{◌≡◌, ◌<◌, ◌∷◌, ◌++◌, [], OnOk, IfOk, take, drop, length, map, All};
+ghost use Rattle.std.specs.Prelude.{◌≡◌, ◌∷◌, ◌++◌, OnOk, take, length, map};
 ghost use Rattle.gl_match.specs.declared.spot.Spot.{Spot as SpotValue};
-ghost use Rattle.gl_base.specs.Reports.{name_at, parts};
+ghost use Rattle.gl_text.specs.Flattening.{device_name};
+ghost use Rattle.gl_base.specs.Reports.{name_at, part, parts};
 ghost use Rattle.gl_base.specs.RoundReports.{card_name};
+ghost use Rattle.gl_lifting.specs.HistoryReports.{origin_name};
+ghost use Rattle.gl_history.specs.Plain.{origin_value};
 ghost use Rattle.gl_deck.specs.Bodies.{body_value, bodies_value};
 ghost use Rattle.gl_flat.specs.Kept.{KeptDevice as Kept};
-ghost use Rattle.gl_report.specs.Pieces.{behind_blanks, spot_parts};
+ghost use Rattle.gl_report.specs.Pieces.{behind_blanks};
 
-use crate::words::put_part;
+use crate::names::RoundNames;
+use crate::words::{put, put_chosen, put_front, put_part};
 use gl_deck::Body;
-use gl_flat::KeptDevice;
+use gl_flat::{Flat, KeptDevice};
+use gl_history::Origin;
 use gl_line::Name;
-use gl_match::{Memory, NetId, Spot};
+use gl_match::{DevId, Memory, NetId, Spot};
+
+/// The name of a net; none past the last.
+fn net_name(nets: &[Name], net: NetId) -> &[u8]
+    ensures name { result.now ≡ name_at nets.now net }
+{
+    match nets.get(net.0 as usize) {
+        Some(name) => name.as_bytes(),
+        None => b"",
+    }
+}
 
 /// Appends a part for each port, with the net of the binding.
 pub fn put_ports(
@@ -19,14 +34,12 @@ pub fn put_ports(
     nets: &[Name],
     binding: &[NetId],
 ) -> Result<(), Memory>
-    requires bound { length binding.now ≡ length ports.now }
-    requires named { All (λ net. net < length nets.now) binding.now }
     ensures ok { OnOk result (out.new.items
         ≡ out.old.items ++ behind_blanks (parts ports.now (map (name_at nets.now) binding.now))) }
     ensures front { take (length out.old.items) out.new.items ≡ out.old.items }
 {
     for (port, net) in ports.iter().zip(binding) {
-        put_part(out, port.as_bytes(), nets[net.0 as usize].as_bytes())?;
+        put_part(out, port.as_bytes(), net_name(nets, *net))?;
     }
     Ok(())
 }
@@ -41,43 +54,70 @@ fn name_of(card: &Body) -> &Name
     }
 }
 
-/// Appends the part of a card, with the image by the first spot. The spots behind it are given.
-fn put_image<'a>(
-    out: &mut Vec<u8>,
-    card: &Body,
-    devices: &[KeptDevice],
-    spots: &'a [Spot],
-) -> Result<&'a [Spot], Memory>
-    requires named { All (λ (s : SpotValue). s.dev < length devices.now) spots.now }
-    ensures ok { OnOk result (out.new.items ≡ out.old.items ++ behind_blanks
-        (spot_parts (map (λ (d : Kept). d.name) devices.now) (body_value card.now ∷ []) spots.now)) }
-    ensures behind { IfOk result (λ rest. rest.now ≡ drop 1 spots.now) }
+/// Appends the name of an original device; nothing past the last.
+fn put_original(out: &mut Vec<u8>, devices: &[KeptDevice], dev: DevId) -> Result<(), Memory>
+    ensures ok { OnOk result (out.new.items
+        ≡ out.old.items ++ name_at (map (λ (d : Kept). d.name) devices.now) dev) }
     ensures front { take (length out.old.items) out.new.items ≡ out.old.items }
 {
-    let [spot, behind @ ..] = spots else {
-        return Ok(spots);
-    };
-    let dev = spot.dev;
-    let image = &devices[dev.0 as usize];
-    put_part(out, name_of(card).as_bytes(), image.name().as_bytes())?;
-    Ok(behind)
+    match devices.get(dev.0 as usize) {
+        Some(device) => put(out, device.name().as_bytes()),
+        None => Ok(()),
+    }
+}
+
+/// Appends the name of a circuit's device, by where it comes from.
+fn put_origin(out: &mut Vec<u8>, stem: &[u8], flat: &Flat, origin: &Origin) -> Result<(), Memory>
+    ensures ok { OnOk result (out.new.items ≡ out.old.items
+        ++ origin_name stem.now (map device_name flat.now.devices) (origin_value origin.now)) }
+    ensures front { take (length out.old.items) out.new.items ≡ out.old.items }
+{
+    match origin {
+        Origin::Base(dev) => put_original(out, flat.devices(), *dev),
+        Origin::Made(number) => put_chosen(out, stem, *number),
+    }
+}
+
+/// Appends the name of a device of a round's circuit; nothing past the last.
+fn put_device(out: &mut Vec<u8>, names: &RoundNames<'_>, dev: DevId) -> Result<(), Memory>
+    ensures ok { OnOk result (out.new.items ≡ out.old.items ++ name_at names.now.devices dev) }
+    ensures front { take (length out.old.items) out.new.items ≡ out.old.items }
+{
+    match names.origins.get(dev.0 as usize) {
+        Some(origin) => put_origin(out, names.stem, names.flat, origin),
+        None => Ok(()),
+    }
+}
+
+/// Appends the part of a card, with the image at a spot.
+fn put_image(
+    out: &mut Vec<u8>,
+    names: &RoundNames<'_>,
+    card: &Body,
+    spot: &Spot,
+) -> Result<(), Memory>
+    ensures ok { OnOk result (out.new.items ≡ out.old.items
+        ++ 32 ∷ part (card_name (body_value card.now), name_at names.now.devices spot.now.dev)) }
+    ensures front { take (length out.old.items) out.new.items ≡ out.old.items }
+{
+    put_front(out, name_of(card).as_bytes())?;
+    put_device(out, names, spot.dev)
 }
 
 /// Appends a part for each card of a cell, with its image.
 pub fn put_images(
     out: &mut Vec<u8>,
+    names: &RoundNames<'_>,
     cards: &[Body],
-    devices: &[KeptDevice],
     least: &[Spot],
 ) -> Result<(), Memory>
-    requires named { All (λ (s : SpotValue). s.dev < length devices.now) least.now }
-    ensures ok { OnOk result (out.new.items ≡ out.old.items ++ behind_blanks
-        (spot_parts (map (λ (d : Kept). d.name) devices.now) (bodies_value cards.now) least.now)) }
+    ensures ok { OnOk result (out.new.items ≡ out.old.items
+        ++ behind_blanks (parts (map card_name (bodies_value cards.now))
+        (map (λ (s : SpotValue). name_at names.now.devices s.dev) least.now))) }
     ensures front { take (length out.old.items) out.new.items ≡ out.old.items }
 {
-    let mut spots = least;
-    for card in cards {
-        spots = put_image(out, card, devices, spots)?;
+    for (card, spot) in cards.iter().zip(least) {
+        put_image(out, names, card, spot)?;
     }
     Ok(())
 }

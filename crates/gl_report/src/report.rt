@@ -1,65 +1,72 @@
-ghost use Rattle.std.specs.Prelude.{◌≡◌, ◌∷◌, ◌++◌, [], OnOk, OnErr, take, length, map, flat_map, codes};
-ghost use Rattle.std.specs.List.{zip, enumerate_from};
-ghost use Rattle.gl_base.specs.Rounds.{cells_at};
-ghost use Rattle.gl_base.specs.RoundReports.{cell_parts, rounds_of, round_lines};
-ghost use Rattle.gl_report.specs.Naming.{IsReportable, first_report};
-ghost use Rattle.gl_report.specs.Pieces.{ArePartsNamed};
+ghost use Rattle.std.specs.Prelude.{◌≡◌, ◌∷◌, ◌++◌, [], OnOk, OnErr, take, length};
+ghost use Rattle.gl_report.specs.Shown.{shown_report};
+ghost use Rattle.gl_report.specs.Pieces.{round_text, rounds_text};
 
 use crate::Names;
-use crate::cells::{Finds, put_cells};
+use crate::cells::put_cells;
 use crate::words::{put, put_number};
 use gl_cells::Library;
-use gl_legal::CellList;
-use gl_match::{Memory, Pick};
+use gl_history::Round;
+use gl_match::Memory;
 
-/// Appends the report of a run whose only round is the first: what became of each cell of level 0, in library order, with
-/// the list of a searched one and its picks, and how many devices are left. A library without cells has no round.
+/// Appends the report of all rounds, each with the number of its level: what became of each cell of the level, in library
+/// order, with the list of a searched one and its picks; and behind the rounds how many devices are left. A device of a round
+/// is named by where it comes from: an original one by its flat name, and one that stands for a chosen instance by the stem
+/// and its number.
 pub fn print(
     names: &Names<'_>,
     library: &Library,
-    lists: &[CellList],
-    picks: &[Vec<Pick>],
-    left: u32,
+    rounds: &[Round],
+    left: usize,
     out: &mut Vec<u8>,
 ) -> Result<(), Memory>
-    requires named { IsReportable names.now library.now lists.now (map (λ v. v.items) picks.now) }
-    ensures appended { OnOk result (out.new.items ≡ out.old.items
-        ++ first_report names.now library.now lists.now (map (λ v. v.items) picks.now) left) }
+    ensures appended { OnOk result (out.new.items
+        ≡ out.old.items ++ shown_report names.now library.now rounds.now left) }
     ensures unchanged { OnErr result (out.new.items ≡ out.old.items) }
 {
     let start = out.len();
-    let printed = put_report(out, names, library, Finds { lists, picks }, left);
+    let printed = put_report(out, names, library, rounds, left);
     if printed.is_err() {
         out.truncate(start);
     }
     printed
 }
 
-/// Appends the lines of the round, unless the library has no cells.
+/// Appends the lines of a round.
+fn put_round(
+    out: &mut Vec<u8>,
+    names: &Names<'_>,
+    library: &Library,
+    level: usize,
+    round: &Round,
+) -> Result<(), Memory>
+    ensures ok { OnOk result (out.new.items
+        ≡ out.old.items ++ round_text names.now library.now (level, round.now)) }
+    ensures front { take (length out.old.items) out.new.items ≡ out.old.items }
+{
+    put(out, b"round ")?;
+    put_number(out, level)?;
+    put(out, b"\n")?;
+    let names = names.of_round(&round.origins);
+    let subs = library.deck().subs().as_slice();
+    put_cells(out, &names, level, subs, library.cells(), &round.cells)
+}
+
+/// Appends the lines of rounds, numbered from 0.
 fn put_rounds(
     out: &mut Vec<u8>,
     names: &Names<'_>,
     library: &Library,
-    finds: Finds<'_>,
+    rounds: &[Round],
 ) -> Result<(), Memory>
-    requires named { ArePartsNamed names.now (cell_parts (cells_at 0 library.now)
-        (zip finds.lists.now (map (λ v. v.items) finds.picks.now))) }
-    ensures ok { OnOk result (out.new.items ≡ out.old.items ++ flat_map (round_lines names.now.run)
-        (enumerate_from 0 (rounds_of library.now.cells (record {
-          devices = names.now.devices;
-          cells = cell_parts
-              (cells_at 0 library.now) (zip finds.entry.lists.now (map (λ v. v.items) finds.entry.picks.now));
-        })))) }
+    ensures ok { OnOk result (out.new.items
+        ≡ out.old.items ++ rounds_text names.now library.now rounds.now) }
     ensures front { take (length out.old.items) out.new.items ≡ out.old.items }
 {
-    let cells = library.cells();
-    if cells.is_empty() {
-        return Ok(());
+    for (level, round) in rounds.iter().enumerate() {
+        put_round(out, names, library, level, round)?;
     }
-    put(out, b"round ")?;
-    put_number(out, 0)?;
-    put(out, b"\n")?;
-    put_cells(out, names, library.deck().subs().as_slice(), cells, finds)
+    Ok(())
 }
 
 /// Appends the report. What stood before stays, also where no memory is found.
@@ -67,16 +74,15 @@ fn put_report(
     out: &mut Vec<u8>,
     names: &Names<'_>,
     library: &Library,
-    finds: Finds<'_>,
-    left: u32,
+    rounds: &[Round],
+    left: usize,
 ) -> Result<(), Memory>
-    requires named { IsReportable names.now library.now finds.lists.now (map (λ v. v.items) finds.picks.now) }
-    ensures ok { OnOk result (out.new.items ≡ out.old.items
-        ++ first_report names.now library.now finds.entry.lists.now (map (λ v. v.items) finds.entry.picks.now) left) }
+    ensures ok { OnOk result (out.new.items
+        ≡ out.old.items ++ shown_report names.now library.now rounds.now left) }
     ensures front { take (length out.old.items) out.new.items ≡ out.old.items }
 {
-    put_rounds(out, names, library, finds)?;
+    put_rounds(out, names, library, rounds)?;
     put(out, b"left ")?;
-    put_number(out, left as usize)?;
+    put_number(out, left)?;
     put(out, b"\nend\n")
 }

@@ -1,7 +1,7 @@
 ghost use Rattle.std.specs.Prelude.{◌≡◌, ◌∷◌, ◌++◌, [], OnOk, take, length, codes};
 ghost use Rattle.std.specs.Fmt.{decimal};
 ghost use Rattle.gl_base.specs.Reports.{part};
-ghost use Rattle.gl_base.specs.RoundReports.{fate_words, reason_words};
+ghost use Rattle.gl_base.specs.RoundReports.{instance_name, fate_words, reason_words};
 ghost use Rattle.gl_cells.specs.Skips.{skip_value};
 ghost use Rattle.gl_report.specs.Pieces.{behind_blanks};
 
@@ -26,15 +26,32 @@ pub fn put_number(out: &mut Vec<u8>, number: usize) -> Result<(), Memory>
     put(out, Buffer::new().format(number).as_bytes())
 }
 
+/// Appends a blank and `NAME=`, the front of a part.
+pub fn put_front(out: &mut Vec<u8>, name: &[u8]) -> Result<(), Memory>
+    ensures ok { OnOk result (out.new.items ≡ out.old.items ++ 32 ∷ (name.now ++ codes "=")) }
+    ensures front { take (length out.old.items) out.new.items ≡ out.old.items }
+{
+    put(out, b" ")?;
+    put(out, name)?;
+    put(out, b"=")
+}
+
 /// Appends a blank and `NAME=IMAGE`.
 pub fn put_part(out: &mut Vec<u8>, name: &[u8], image: &[u8]) -> Result<(), Memory>
     ensures ok { OnOk result (out.new.items ≡ out.old.items ++ 32 ∷ part (name.now, image.now)) }
     ensures front { take (length out.old.items) out.new.items ≡ out.old.items }
 {
-    put(out, b" ")?;
-    put(out, name)?;
-    put(out, b"=")?;
+    put_front(out, name)?;
     put(out, image)
+}
+
+/// Appends the name of a chosen instance.
+pub fn put_chosen(out: &mut Vec<u8>, stem: &[u8], number: u32) -> Result<(), Memory>
+    ensures ok { OnOk result (out.new.items ≡ out.old.items ++ instance_name stem.now number) }
+    ensures front { take (length out.old.items) out.new.items ≡ out.old.items }
+{
+    put(out, stem)?;
+    put_number(out, number as usize)
 }
 
 /// Appends what became of an instance: a blank, `over` and a blank if it is not chosen, and the name of the chosen one.
@@ -45,13 +62,11 @@ pub fn put_fate(out: &mut Vec<u8>, stem: &[u8], pick: Pick) -> Result<(), Memory
     match pick {
         Pick::Taken(number) => {
             put(out, b" ")?;
-            put(out, stem)?;
-            put_number(out, number as usize)
+            put_chosen(out, stem, number)
         }
         Pick::Over(number) => {
             put(out, b" over ")?;
-            put(out, stem)?;
-            put_number(out, number as usize)
+            put_chosen(out, stem, number)
         }
     }
 }

@@ -1,9 +1,9 @@
 use Rattle.std.proofs.Common.{◌≡◌, ◌∙◌, ℕ, List, Option, None, sym, subst}
 use Rattle.std.specs.Option.{option_copied}
-use Rattle.gl_fault.specs.Refusals.{IsRefusal}
+use Rattle.gl_fault.specs.Refusals.{IsFound}
 use Rattle.gl_text.specs.Flattening.{Flat}
 use Rattle.gl_base.specs.BaseCircuit.{Source}
-use Rattle.gl_base.specs.Keeping.{unknown_keep, base_keeping}
+use Rattle.gl_base.specs.Keeping.{unknown_keep}
 use Rattle.gl_base.specs.Rounds.{source_of}
 use Rattle.gl_lift.specs.Lifting.{flat_deck, IsLiftReport}
 use Rattle.gl_lib.specs.Kept.{unknown_of}
@@ -32,6 +32,7 @@ returns c =
     let given = c.in_ok-flat.ensures.gives in
     let keep = c.args.keep.now in
     let library = c.args.library.now in
-    let plain-refused = subst (λ (f : Flat). IsRefusal (unknown_of c.in-Err.fault) (base_keeping keep (source_of f library) library)) given.2 c.in-Err.ensures.refused in
-    let refused = subst (λ (s : Source). IsRefusal (unknown_of c.in-Err.fault) (base_keeping keep s library)) (same_source given.0 library) plain-refused in
-    record { gives = keep_refused keep library given.0 (flat_deck (option_copied c.args.top) c.args.deck.now library) (unknown_of c.in-Err.fault) given.1 refused }
+    let unknown = unknown_of c.in-Err.fault in
+    let plain-found = subst (λ (f : Flat). IsFound unknown (unknown_keep keep (source_of f library))) given.2 c.in-Err.ensures.refused in
+    let found = subst (λ (s : Source). IsFound unknown (unknown_keep keep s)) (same_source given.0 library) plain-found in
+    record { gives = keep_refused keep library given.0 (flat_deck (option_copied c.args.top) c.args.deck.now library) unknown given.1 found }

@@ -1,11 +1,10 @@
-use Rattle.std.proofs.Common.{◌≡◌, ◌++◌, map, ap, ◌∙◌}
+use Rattle.std.proofs.Common.{◌≡◌, ◌++◌, ap, ◌∙◌}
 use Rattle.std.specs.Prelude.{codes}
 use Rattle.std.specs.Fmt.{decimal}
 use Rattle.std.proofs.lemmas.Result.{IfOk-equal}
 use Rattle.gl_match.specs.Listing.{Instance as Item}
 use Rattle.gl_match.specs.Keys.{Key}
 use Rattle.gl_text.specs.Cards.{Head}
-use Rattle.gl_flat.specs.Kept.{KeptDevice}
 use Rattle.gl_deck.specs.Bodies.{bodies_value}
 use Rattle.gl_base.specs.Reports.{line}
 use Rattle.gl_base.specs.RoundReports.{fate_words, port_words, image_words, found_words}
@@ -29,6 +28,6 @@ returns-clause-ok c =
     (same_ports c.ports.result.now cell.head.ports c.items.result.now names.run.nets c.deref.result.now item.key.binding (c.ports.ensures.ports ∙ ap (λ (h : Head). h.ports) c.head.ensures.head) (c.items.ensures.items ∙ c.nets.ensures.nets ∙ ap (λ (n : RoundNames). n.run.nets) c.names.view_is) binding) in
     let images : c.put_images.new.out.items ≡ c.put.new.out.items ++ behind_blanks (image_words names.devices cell item) =
     c.in_ok-put_images.ensures.ok ∙ ap (λ ws. c.put.new.out.items ++ behind_blanks ws)
-    (same_images (map (λ (d : KeptDevice). d.name) c.devices.result.now) names.devices (bodies_value c.cards.result.now) cell.cards c.deref-2.result.now item.least (c.devices.ensures.names ∙ ap (λ (n : RoundNames). n.devices) c.names.view_is) c.cards.ensures.cards (c.deref-2.ensures.value ∙ ap (λ (i : Item). i.least) c.item.view_is)) in
+    (same_images names.devices (bodies_value c.cards.result.now) cell.cards c.deref-2.result.now item.least c.cards.ensures.cards (c.deref-2.ensures.value ∙ ap (λ (i : Item). i.least) c.item.view_is)) in
     IfOk-equal c.put-2.result c.put-2.new.out.items (c.put_images.new.out.items ++ codes "\n") (out ++ line (found_words names.run names.devices cell (c.args.number, (item, c.args.pick)))) c.put-2.ensures.ok
     (instance_printed out c.put_number.new.out.items c.put_fate.new.out.items c.put_ports.new.out.items c.put.new.out.items c.put_images.new.out.items (decimal c.args.number) (fate_words names.run.stem c.args.pick) (port_words names.run.nets cell item) (image_words names.devices cell item) c.in_ok-put_number.ensures.ok fate ports c.in_ok-put.ensures.ok images)

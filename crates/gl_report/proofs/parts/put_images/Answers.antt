@@ -1,19 +1,40 @@
-use Rattle.std.proofs.Common.{◌≡◌, ◌<◌, ◌+◌, ◌∷◌, drop, length, map, refl, ap}
-use Rattle.gl_match.specs.declared.spot.Spot.{Spot as SpotValue}
+use Rattle.std.proofs.Common.{◌≡◌, ◌∙◌, ◌<◌, [], ◌∷◌, ◌++◌, length, map, get_or, min, sym, ap, arith}
+use Rattle.std.proofs.lemmas.List.{length_push, get_or-map, length-map}
+use Rattle.std.proofs.lemmas.Slice.Zip.{zip_turn, zip_end}
+use Rattle.gl_match.specs.declared.spot.Spot.{Spot}
+use Rattle.gl_base.specs.Reports.{name_at}
+use Rattle.gl_base.specs.RoundReports.{card_name}
+use Rattle.gl_deck.specs.declared.body.Body.{Body}
 use Rattle.gl_deck.specs.Bodies.{body_value, bodies_value}
-use Rattle.gl_flat.specs.Kept.{KeptDevice}
-use Rattle.gl_report.proofs.RestLaws.{from_place, image_step, behind_all, front_on}
+use Rattle.gl_report.proofs.PartLaws.{parts_step, parts_all, front_stays}
 use Rattle.gl_report.proofs.parts.put_images.Goals as goal
 
 pub loop-card-preserved : goal.loop-card-preserved
 loop-card-preserved c =
-    let k = c.loop-card.card-index in
     let cards = c.args.cards.now in
-    let card = c.card-item.result in
-    let names = map (λ (d : KeptDevice). d.name) c.args.devices.now in
-    let from : bodies_value (drop k cards) ≡ body_value card ∷ bodies_value (drop (k + 1) cards) = ap bodies_value (from_place cards k (k + 1) card c.loop-card-test.true refl c.card-item.is) in
-    record {
-      text = image_step names (bodies_value (drop k cards)) (bodies_value (drop (k + 1) cards)) (body_value card) c.loop-card.spots.now c.in_ok-spots.spots.now _ c.loop-card.out.items c.put_image.new.out.items from c.in_ok-spots.ensures.ok c.in_ok-spots.ensures.behind c.loop-card.invariant.text;
-      named = behind_all (λ (s : SpotValue). s.dev < length c.args.devices.now) c.loop-card.spots.now c.in_ok-spots.spots.now c.in_ok-spots.ensures.behind c.loop-card.invariant.named;
-      front = front_on c.args.out.now.items c.loop-card.out.items c.put_image.new.out.items c.loop-card.invariant.front c.in_ok-spots.ensures.front;
-    }
+    let least = c.args.least.now in
+    let devices = c.args.names.now.devices in
+    let k = length c.loop-card.yielded in
+    let card = c.in-Some.card.now in
+    let spot = c.in-Some.spot.now in
+    let image_at = λ (s : Spot). name_at devices s.dev in
+    let turn = zip_turn cards least c.loop-card.yielded c.into_iter-card-iterator.result c.loop-card.card-iterator c.next.new.self c.next.result (cc) (cc) c.loop-card.yielded_by (c.in-Some.card, c.in-Some.spot) c.in-Some.is c.next.ensures.steps in
+    let within : k < length (bodies_value cards) = omega (arith, length-map cards body_value, turn.0) in
+    let in_names : k < length (map card_name (bodies_value cards)) = omega (arith, length-map (bodies_value cards) card_name, within) in
+    let name : card_name (body_value card) ≡ get_or (map card_name (bodies_value cards)) k [] = ap (λ (b : Body). card_name (body_value b)) (turn.2 card)
+    ∙ (sym (ap card_name (get_or-map body_value cards k card (body_value card) turn.0)) ∙ sym (get_or-map card_name (bodies_value cards) k (body_value card) [] within)) in
+    let image : name_at devices spot.dev ≡ get_or (map image_at least) k [] = ap image_at (turn.3 spot) ∙ sym (get_or-map image_at least k spot [] turn.1) in
+    parts_step (map card_name (bodies_value cards)) (map image_at least) k (length (c.loop-card.yielded ++ (c.in-Some.card, c.in-Some.spot) ∷ [])) c.args.out.now.items c.loop-card.out.items c.put_image.new.out.items (card_name (body_value card)) (name_at devices spot.dev)
+    in_names (omega (arith, length-map least image_at, turn.1)) (length_push c.loop-card.yielded (c.in-Some.card, c.in-Some.spot)) name image c.loop-card.invariant c.in_ok-put_image.ensures.ok
+
+pub returns-in_err-put_image-clause-front : goal.returns-in_err-put_image-clause-front
+returns-in_err-put_image-clause-front c = front_stays c.args.out.now.items _ _ _ c.loop-card.invariant c.in_err-put_image.ensures.front
+
+pub returns-clause-ok : goal.returns-clause-ok
+returns-clause-ok c =
+    let cards = c.args.cards.now in
+    let least = c.args.least.now in
+    let image_at = λ (s : Spot). name_at c.args.names.now.devices s.dev in
+    let all = zip_end cards least c.loop-card.yielded c.into_iter-card-iterator.result c.loop-card.card-iterator c.next.new.self c.next.result (cc) (cc) c.loop-card.yielded_by c.in-None.is c.next.ensures.steps in
+    let as_many = length-map (bodies_value cards) card_name ∙ length-map cards body_value in
+    parts_all (map card_name (bodies_value cards)) (map image_at least) (length c.loop-card.yielded) c.args.out.now.items c.loop-card.out.items (all ∙ (ap (λ m. min m (length least)) (sym as_many) ∙ ap (min (length (map card_name (bodies_value cards)))) (sym (length-map least image_at)))) c.loop-card.invariant

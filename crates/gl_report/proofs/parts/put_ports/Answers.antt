@@ -1,5 +1,5 @@
-use Rattle.std.proofs.Common.{◌≡◌, ◌∙◌, [], ◌∷◌, ◌++◌, length, map, get_or, sym, ap, arith}
-use Rattle.std.proofs.lemmas.List.{length_push, get_or_read, get_or-map, length-map}
+use Rattle.std.proofs.Common.{◌≡◌, ◌∙◌, [], ◌∷◌, ◌++◌, length, map, get_or, min, sym, ap, arith}
+use Rattle.std.proofs.lemmas.List.{length_push, get_or-map, length-map}
 use Rattle.std.proofs.lemmas.Slice.Zip.{zip_turn, zip_end}
 use Rattle.gl_base.specs.Reports.{name_at}
 use Rattle.gl_report.proofs.PartLaws.{parts_step, parts_all, front_stays}
@@ -12,11 +12,9 @@ loop-port-preserved c =
     let binding = c.args.binding.now in
     let k = length c.loop-port.yielded in
     let turn = zip_turn ports binding c.loop-port.yielded c.into_iter-port-iterator.result c.loop-port.port-iterator c.next.new.self c.next.result (cc) (cc) c.loop-port.yielded_by (c.in-Some.port, c.in-Some.net) c.in-Some.is c.next.ensures.steps in
-    let number : c.net.inside.0 ≡ get_or binding k 0 = c.net.view_is ∙ turn.3 0 in
-    let image : c.index-nets-net.result ≡ get_or nets (get_or binding k 0) [] = get_or_read nets (get_or binding k 0) c.index-nets-net.result (c.requires.named k 0 turn.1) (c.index-nets-net.is ∙ ap (λ i. get_or nets i c.index-nets-net.result) number) [] in
-    parts_step ports (map (name_at nets) binding) k (length (c.loop-port.yielded ++ (c.in-Some.port, c.in-Some.net) ∷ [])) c.args.out.now.items c.loop-port.out.items c.put_part.new.out.items c.as_bytes.result.now c.as_bytes-in-loop-port.result.now
-    turn.0 (omega (arith, length-map binding (name_at nets), turn.1)) (length_push c.loop-port.yielded (c.in-Some.port, c.in-Some.net)) (c.as_bytes.ensures.bytes ∙ turn.2 [])
-    (c.as_bytes-in-loop-port.ensures.bytes ∙ (image ∙ sym (get_or-map (name_at nets) binding k 0 [] turn.1))) c.loop-port.invariant c.in_ok-put_part.ensures.ok
+    let image = c.net_name.ensures.name ∙ (ap (name_at nets) (turn.3 0) ∙ sym (get_or-map (name_at nets) binding k 0 [] turn.1)) in
+    parts_step ports (map (name_at nets) binding) k (length (c.loop-port.yielded ++ (c.in-Some.port, c.in-Some.net) ∷ [])) c.args.out.now.items c.loop-port.out.items c.put_part.new.out.items c.as_bytes.result.now c.net_name.result.now
+    turn.0 (omega (arith, length-map binding (name_at nets), turn.1)) (length_push c.loop-port.yielded (c.in-Some.port, c.in-Some.net)) (c.as_bytes.ensures.bytes ∙ turn.2 []) image c.loop-port.invariant c.in_ok-put_part.ensures.ok
 
 pub returns-in_err-put_part-clause-front : goal.returns-in_err-put_part-clause-front
 returns-in_err-put_part-clause-front c = front_stays c.args.out.now.items _ _ _ c.loop-port.invariant c.in_err-put_part.ensures.front
@@ -26,5 +24,4 @@ returns-clause-ok c =
     let ports = c.args.ports.now in
     let images = map (name_at c.args.nets.now) c.args.binding.now in
     let all = zip_end ports c.args.binding.now c.loop-port.yielded c.into_iter-port-iterator.result c.loop-port.port-iterator c.next.new.self c.next.result (cc) (cc) c.loop-port.yielded_by c.in-None.is c.next.ensures.steps in
-    let as_many : length images ≡ length ports = omega (arith, length-map c.args.binding.now (name_at c.args.nets.now), c.requires.bound) in
-    parts_all ports images (length c.loop-port.yielded) c.args.out.now.items c.loop-port.out.items as_many (omega (arith, all, c.requires.bound)) c.loop-port.invariant
+    parts_all ports images (length c.loop-port.yielded) c.args.out.now.items c.loop-port.out.items (all ∙ ap (min (length ports)) (sym (length-map c.args.binding.now (name_at c.args.nets.now)))) c.loop-port.invariant

@@ -1,35 +1,24 @@
-use Rattle.std.proofs.Common.{◌≡◌, ◌<◌, ◌≢◌, ◌++◌, length, map, refl, sym, ap, ◌∙◌, subst, arith}
-use Rattle.std.proofs.lemmas.Bool.{eqb-false}
-use Rattle.std.specs.Prelude.{OnOk, filter, flat_map, ◌==◌}
-use Rattle.std.specs.List.{zip, enumerate_from}
-use Rattle.std.specs.declared.alloc.Global.{Global}
-use Rattle.std.specs.declared.vec.Vec.{Vec}
-use Rattle.std.proofs.lemmas.Result.{IfOk-equal}
-use Rattle.gl_match.specs.declared.role.Pick.{Pick}
-use Rattle.gl_text.specs.Decks.{Sub, Deck}
-use Rattle.gl_base.specs.Libraries.{Cell}
-use Rattle.gl_base.specs.Rounds.{cells_at}
-use Rattle.gl_base.specs.RoundReports.{RoundPart, cell_parts, rounds_of, round_lines}
-use Rattle.gl_report.specs.Pieces.{parts_text}
-use Rattle.gl_report.proofs.RoundLaws.{round_printed}
+use Rattle.std.proofs.Common.{◌≡◌, ◌∙◌, ◌+◌, ◌++◌, List, ℕ, sym, ap, arith}
+use Rattle.gl_base.specs.RoundReports.{round_lines}
+use Rattle.gl_report.specs.Shown.{shown_part}
+use Rattle.gl_report.specs.Pieces.{round_text}
+use Rattle.gl_report.proofs.PartLaws.{front_stays}
+use Rattle.gl_report.proofs.ListLaws.{numbered_turn, numbered_all, again}
 use Rattle.gl_report.proofs.report.put_rounds.Goals as goal
+
+pub loop-level-preserved : goal.loop-level-preserved
+loop-level-preserved c =
+    let rounds = c.args.rounds.now in
+    let i = c.loop-level.level in
+    numbered_turn (round_text c.args.names.now c.args.library.now) 0 rounds i (i + 1) i c.index-rounds-level.result c.args.out.now.items c.loop-level.out.items c.put_round.new.out.items c.loop-level-test.true (omega arith) (omega arith) c.index-rounds-level.is c.loop-level.invariant c.in_ok-put_round.ensures.ok
+
+pub returns-in_err-put_round-clause-front : goal.returns-in_err-put_round-clause-front
+returns-in_err-put_round-clause-front c = front_stays c.args.out.now.items _ _ _ c.loop-level.invariant c.in_err-put_round.ensures.front
 
 pub returns-clause-ok : goal.returns-clause-ok
 returns-clause-ok c =
-    let out = c.args.out.now.items in
     let names = c.args.names.now in
     let library = c.args.library.now in
-    let finds = zip c.args.finds.lists.now (map (λ (v : Vec Pick Global). v.items) c.args.finds.picks.now) in
-    let round : RoundPart = record { devices = names.devices; cells = cell_parts (cells_at 0 library) finds } in
-    let before = c.put-2.new.out.items in
-    let text = before ++ parts_text names (cell_parts (cells_at 0 library) finds) in
-    let subs : c.as_slice.result.now ≡ library.deck.subs = c.as_slice.ensures.subs ∙ c.subs.ensures.subs ∙ ap (λ (d : Deck). d.subs) c.deck.ensures.deck in
-    let cells : c.cells-cells.result.now ≡ library.cells = c.cells-cells.ensures.cells in
-    let same : before ++ parts_text names (cell_parts (filter (λ (x : Sub × Cell). x.1.level == 0) (zip c.as_slice.result.now c.cells-cells.result.now)) finds) ≡ text =
-    ap (λ ss. before ++ parts_text names (cell_parts (filter (λ (x : Sub × Cell). x.1.level == 0) (zip ss c.cells-cells.result.now)) finds)) subs
-    ∙ ap (λ cs. before ++ parts_text names (cell_parts (filter (λ (x : Sub × Cell). x.1.level == 0) (zip library.deck.subs cs)) finds)) cells in
-    let filled : length c.cells-cells.result.now ≢ 0 = eqb-false (length c.cells-cells.result.now) 0 (sym c.is_empty.ensures ∙ c.if-is_empty.false) in
-    let some : 0 < length library.cells = omega (arith, filled, ap length cells) in
-    IfOk-equal c.put_cells.result c.put_cells.new.out.items (before ++ parts_text names (cell_parts (filter (λ (x : Sub × Cell). x.1.level == 0) (zip c.as_slice.result.now c.cells-cells.result.now)) finds))
-    (out ++ flat_map (round_lines names.run) (enumerate_from 0 (rounds_of library.cells round))) c.put_cells.ensures.ok
-    (same ∙ round_printed names library.cells round out c.put.new.out.items c.put_number.new.out.items before text some refl c.in_ok-put.ensures.ok c.in_ok-put_number.ensures.ok c.in_ok-put-2.ensures.ok refl)
+    let rounds = c.args.rounds.now in
+    numbered_all (round_text names library) 0 rounds c.loop-level.level c.args.out.now.items c.loop-level.out.items (omega arith) c.loop-level.invariant
+    ∙ ap (λ (t : List ℕ). c.args.out.now.items ++ t) (sym (again (round_lines names.run) (shown_part names library) 0 rounds))
