@@ -11,7 +11,8 @@ use Rattle.gl_deck.specs.Refusals as decks
 use Rattle.gl_cells.specs.Causes.{cause_of}
 use Rattle.gl_flat.specs.Refusals as flats
 use Rattle.gl_lift.specs.Refusals as lifts
-use Rattle.gl_said.specs.Texts.{fault_text, cell_text}
+use Rattle.gl_deck.specs.Texts.{fault_text}
+use Rattle.gl_cells.specs.Texts.{cell_text}
 use Rattle.gl_run.specs.declared.ending.Ending.{Ending}
 use Rattle.gl_run.specs.declared.ending.Ending.TheVariants as endings
 use Rattle.gl_run.specs.Endings.{end_of, kind_of, text_of, is_done}
@@ -67,7 +68,6 @@ end_parts endings.Done undone = absurd cc
 end_parts endings.Words undone = refl
 end_parts (endings.Deck fault) undone = told_parts kinds.Deck fault_text (decks.fault_of fault)
 end_parts (endings.Library fault) undone = told_parts kinds.Library cell_text (cause_of fault)
-end_parts (endings.NotYet line) undone = refl
 end_parts (endings.Flat fault) undone = told_parts kinds.Deck fault_text (flats.fault_of fault)
 end_parts (endings.Lift fault) undone = told_parts kinds.Deck lift_text (lifts.cause_of fault)
 end_parts (endings.Stopped stop) undone = refl
@@ -85,7 +85,6 @@ done_speaks endings.Done view h = refl
 done_speaks endings.Words view h = absurd cc
 done_speaks (endings.Deck fault) view h = absurd cc
 done_speaks (endings.Library fault) view h = absurd cc
-done_speaks (endings.NotYet line) view h = absurd cc
 done_speaks (endings.Flat fault) view h = absurd cc
 done_speaks (endings.Lift fault) view h = absurd cc
 done_speaks (endings.Stopped stop) view h = absurd cc
@@ -95,7 +94,6 @@ done_status endings.Done h = refl
 done_status endings.Words h = absurd cc
 done_status (endings.Deck fault) h = absurd cc
 done_status (endings.Library fault) h = absurd cc
-done_status (endings.NotYet line) h = absurd cc
 done_status (endings.Flat fault) h = absurd cc
 done_status (endings.Lift fault) h = absurd cc
 done_status (endings.Stopped stop) h = absurd cc

@@ -6,14 +6,11 @@ use Rattle.gl_fault.specs.Refusals.{IsRefusal, or_else, ◌>>=◌}
 use Rattle.gl_text.specs.LogicalLines.{Fault}
 use Rattle.gl_text.specs.Decks.{Deck, read_deck}
 use Rattle.gl_text.specs.Flattening.{Flat, flatten, flat_text, flat_job}
-use Rattle.gl_base.specs.Libraries.{Cause, Library, read_library}
-use Rattle.gl_lift.specs.Lifting.{LibraryCause, refused, not_yet, first_call, without_calls, taken_library}
 use Rattle.gl_job.specs.declared.kind.Kind.TheVariants as kinds
 use Rattle.gl_job.specs.Texts.{End, ended, no_memory}
 use Rattle.gl_job.specs.Points.{told, Refuses}
 use Rattle.gl_job.proofs.Points.{told_refuses}
-use Rattle.gl_said.specs.Texts.{fault_text, cell_text, not_yet_text}
-use Rattle.gl_run.specs.Jobs.{library_text}
+use Rattle.gl_deck.specs.Texts.{fault_text}
 
 -- ---- decks
 
@@ -46,22 +43,3 @@ flatten_refused top bytes deck given is h = told_refuses kinds.Deck fault_text g
 pub flat_text_is : (top : Option (List ℕ)) (bytes : List ℕ) (deck : Deck) (flat : Flat) (text : List ℕ) → read_deck true bytes ≡ Ok deck → flatten deck deck.globals top ≡ Ok flat → text ≡ flat_text flat → flat_job top bytes ≡ Ok text
 flat_text_is top bytes deck flat text is flattened text_is =
     flat_job_of top bytes deck is ∙ (ap (λ (r : Result Flat Fault). r >>= λ (f : Flat). Ok (flat_text f)) flattened ∙ ap Ok (sym text_is))
-
--- ---- libraries
-
--- the library is refused as it is read
-pub library_refused : (bytes : List ℕ) (given : Option Cause) → IsRefusal given (read_library bytes) → Refuses kinds.Library library_text (taken_library bytes) (told kinds.Library cell_text given)
-library_refused bytes None h = by (taken_library bytes) where
-  by : (r : Result Library LibraryCause) → Refuses kinds.Library library_text r no_memory
-  by (Ok library) = refl
-  by (Err cause) = inl refl
-library_refused bytes (Some cause) h = told_refuses kinds.Library library_text (Some (refused cause)) (taken_library bytes) (ap without_calls h)
-
--- the library has an X card
-pub library_calls : (bytes : List ℕ) (library : Library) (line : ℕ) → read_library bytes ≡ Ok library → first_call library.deck ≡ Some line → Refuses kinds.Library library_text (taken_library bytes) (ended kinds.Library (not_yet_text line))
-library_calls bytes library line is call =
-    told_refuses kinds.Library library_text (Some (not_yet line)) (taken_library bytes) (ap without_calls is ∙ ap (λ (l : Option ℕ). or_else (option_map not_yet l) library) call)
-
--- the library has none
-pub library_taken : (bytes : List ℕ) (library : Library) → read_library bytes ≡ Ok library → first_call library.deck ≡ None → taken_library bytes ≡ Ok library
-library_taken bytes library is call = ap without_calls is ∙ ap (λ (l : Option ℕ). or_else (option_map not_yet l) library) call

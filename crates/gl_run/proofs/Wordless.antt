@@ -3,8 +3,9 @@ use Rattle.std.proofs.Common.{◌≡◌, ◌≢◌, ◌≤◌, ℕ, List, [], �
 use Rattle.std.specs.Prelude.{Result, Ok, Err}
 use Rattle.gl_text.specs.Decks.{read_deck}
 use Rattle.gl_text.specs.Flattening.{flat_job}
-use Rattle.gl_lift.specs.Lifting.{taken_library, lifted_flat}
+use Rattle.gl_lift.specs.Lifting.{lifted_flat}
 use Rattle.gl_desk.specs.declared.slot.Slot.{Slot}
+use Rattle.gl_base.specs.Libraries.{read_library}
 use Rattle.gl_job.specs.declared.kind.Kind.{Kind}
 use Rattle.gl_job.specs.declared.kind.Kind.TheVariants as kinds
 use Rattle.gl_job.specs.declared.stop.Stop.{Stop}
@@ -13,8 +14,9 @@ use Rattle.gl_job.specs.Texts.{End, kind_status, status_of, end_of_stop}
 use Rattle.gl_job.specs.Runs.{Run, Opening}
 use Rattle.gl_job.specs.Courses.{Course, refuse, read, may_stop, write, unless, Writes, Ends}
 use Rattle.gl_words.specs.Jobs.{Job, lift, flat, Request, FlatRequest}
-use Rattle.gl_said.specs.Texts.{fault_text}
-use Rattle.gl_run.specs.Jobs.{library_text, lift_text, flat_course, lift_course, course_of}
+use Rattle.gl_deck.specs.Texts.{fault_text}
+use Rattle.gl_cells.specs.Texts.{cell_text}
+use Rattle.gl_run.specs.Jobs.{lift_text, flat_course, lift_course, course_of}
 
 -- no refusal of the course is one of words
 abbrev pub IsWordless : Course → Type 0
@@ -63,7 +65,7 @@ flat_wordless r = λ bytes. wordless_unless kinds.Deck fault_text (flat_job r.to
 lift_wordless : (r : Request) → IsWordless (lift_course r)
 unfolding lift_course
 lift_wordless r = λ d. wordless_unless kinds.Deck fault_text (read_deck true d) _ (omega arith) (λ deck.
-    λ l. wordless_unless kinds.Library library_text (taken_library l) _ (omega arith) (λ library.
+    λ l. wordless_unless kinds.Library cell_text (read_library l) _ (omega arith) (λ library.
     wordless_unless kinds.Deck lift_text (lifted_flat r.top r.keep deck library) _ (omega arith) (λ flat. tt)))
 
 -- the status of words comes only where they name no job

@@ -1,8 +1,8 @@
 -- What the top call claims.
-use Rattle.std.specs.Prelude.{◌≡◌, ◌≢◌, ◌⊎◌, ◌<◌, ℕ, List, [], true, false}
+use Rattle.std.specs.Prelude.{◌≡◌, ◌≢◌, ◌⊎◌, ◌<◌, ◌+◌, ℕ, List, [], true, false}
 use Rattle.gl_desk.specs.declared.slot.Slot.{Slot}
 use Rattle.gl_desk.specs.declared.slot.Slot.TheVariants.{Says}
-use Rattle.gl_desk.specs.Desk.{IsInput, IsOutput}
+use Rattle.gl_desk.specs.Desk.{LONGEST, IsInput, IsOutput}
 use Rattle.gl_job.specs.Texts.{End, status_of, line_of, Speaks}
 use Rattle.gl_job.specs.Runs.{Run, IsUntouched}
 use Rattle.gl_job.specs.Courses.{Course, Ends}
@@ -17,7 +17,7 @@ pub record IsEnding (status : ℕ) (c : Course) (r : Run) : Type 0 where
 
 -- where one byte too many was taken of an input, the file is said to be too long, or there was no memory
 abbrev pub IsLongSaid : ℕ → Run → Type 0
-IsLongSaid status r = (slot : Slot) → IsInput slot → (r.after slot).used ≡ true → (r.after slot).taken ≡ 67108865 → (status ≡ 6) ⊎ (status ≡ 9)
+IsLongSaid status r = (slot : Slot) → IsInput slot → (r.after slot).used ≡ true → (r.after slot).taken ≡ LONGEST + 1 → (status ≡ 6) ⊎ (status ≡ 9)
 
 -- where a fault of a slot was counted that is not in use, a call is said to have failed
 abbrev pub IsFailedSaid : ℕ → Run → Type 0

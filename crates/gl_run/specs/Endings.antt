@@ -7,8 +7,10 @@ use Rattle.gl_lift.specs.Refusals as lifts
 use Rattle.gl_job.specs.declared.kind.Kind.{Kind}
 use Rattle.gl_job.specs.declared.kind.Kind.TheVariants as kinds
 use Rattle.gl_job.specs.Texts.{End, done, ended, end_of_stop, stop_kind, stop_text}
-use Rattle.gl_job.specs.Points.{told, told_kind, told_text}
-use Rattle.gl_said.specs.Texts.{fault_text, cell_text, not_yet_text}
+use Rattle.gl_job.specs.Points.{told, told_kind}
+use Rattle.gl_said.specs.Texts.{told_text}
+use Rattle.gl_deck.specs.Texts.{fault_text}
+use Rattle.gl_cells.specs.Texts.{cell_text}
 use Rattle.gl_run.specs.declared.ending.Ending.{Ending}
 use Rattle.gl_run.specs.declared.ending.Ending.TheVariants as endings
 use Rattle.gl_run.specs.Jobs.{lift_text}
@@ -19,7 +21,6 @@ end_of endings.Done = done []
 end_of endings.Words = ended kinds.Words []
 end_of (endings.Deck fault) = told kinds.Deck fault_text (decks.fault_of fault)
 end_of (endings.Library fault) = told kinds.Library cell_text (cause_of fault)
-end_of (endings.NotYet line) = ended kinds.Library (not_yet_text line)
 end_of (endings.Flat fault) = told kinds.Deck fault_text (flats.fault_of fault)
 end_of (endings.Lift fault) = told kinds.Deck lift_text (lifts.cause_of fault)
 end_of (endings.Stopped stop) = end_of_stop stop
@@ -30,7 +31,6 @@ kind_of endings.Done = kinds.Memory
 kind_of endings.Words = kinds.Words
 kind_of (endings.Deck fault) = told_kind kinds.Deck (decks.fault_of fault)
 kind_of (endings.Library fault) = told_kind kinds.Library (cause_of fault)
-kind_of (endings.NotYet line) = kinds.Library
 kind_of (endings.Flat fault) = told_kind kinds.Deck (flats.fault_of fault)
 kind_of (endings.Lift fault) = told_kind kinds.Deck (lifts.cause_of fault)
 kind_of (endings.Stopped stop) = stop_kind stop
@@ -41,7 +41,6 @@ text_of endings.Done = []
 text_of endings.Words = []
 text_of (endings.Deck fault) = told_text fault_text (decks.fault_of fault)
 text_of (endings.Library fault) = told_text cell_text (cause_of fault)
-text_of (endings.NotYet line) = not_yet_text line
 text_of (endings.Flat fault) = told_text fault_text (flats.fault_of fault)
 text_of (endings.Lift fault) = told_text lift_text (lifts.cause_of fault)
 text_of (endings.Stopped stop) = stop_text stop

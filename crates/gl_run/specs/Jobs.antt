@@ -2,20 +2,18 @@
 use Rattle.std.specs.Prelude.{◌≡◌, ℕ, List, [], ◌∷◌, Option, None, Some, true}
 use Rattle.gl_text.specs.Decks.{read_deck}
 use Rattle.gl_text.specs.Flattening.{flat_job}
-use Rattle.gl_lift.specs.Lifting.{LibraryCause, refused, not_yet, taken_library, LiftCause, of_flat, of_keep, lifted_flat, IsLiftReport}
+use Rattle.gl_base.specs.Libraries.{read_library}
+use Rattle.gl_lift.specs.Lifting.{LiftCause, of_flat, of_keep, lifted_flat, IsLiftReport}
 use Rattle.gl_desk.specs.declared.slot.Slot.TheVariants.{Deck, Library, Report, Out}
 use Rattle.gl_job.specs.declared.kind.Kind.TheVariants as kinds
 use Rattle.gl_job.specs.Runs.{Opening, opening}
 use Rattle.gl_job.specs.Courses.{Course, refuse, unless, input, write}
 use Rattle.gl_words.specs.Jobs.{Job, lift, flat, Request, FlatRequest, job_named}
-use Rattle.gl_said.specs.Texts.{fault_text, cell_text, keep_text, not_yet_text}
+use Rattle.gl_deck.specs.Texts.{fault_text}
+use Rattle.gl_cells.specs.Texts.{cell_text}
+use Rattle.gl_lib.specs.Texts.{keep_text}
 
 -- ---- texts
-
--- why a library is not taken
-abbrev pub library_text : LibraryCause → List ℕ
-library_text (refused cause) = cell_text cause
-library_text (not_yet line) = not_yet_text line
 
 -- why nothing is written of a deck and a library that were read
 abbrev pub lift_text : LiftCause → List ℕ
@@ -45,7 +43,7 @@ lift_outs r = opening Report r.report ∷ []
 unfoldable pub lift_course : Request → Course
 lift_course r =
     input (opening Deck r.deck) kinds.Deck fault_text (read_deck true) (λ deck.
-    input (opening Library r.library) kinds.Library library_text taken_library (λ library.
+    input (opening Library r.library) kinds.Library cell_text read_library (λ library.
     unless kinds.Deck lift_text (lifted_flat r.top r.keep deck library) (λ flat.
     write (lift_outs r) (IsAlone (IsLiftReport r.keep library flat)))))
 

@@ -1,22 +1,22 @@
 //! How a run ends.
 ghost use Rattle.std.specs.Prelude.{◌≡◌, true};
 ghost use Rattle.gl_desk.specs.Desk.{OthersSame, NamesSame};
-ghost use Rattle.gl_job.specs.Points.{told_kind, told_text};
-ghost use Rattle.gl_job.specs.Texts.{parts_text, status_of, line_of, Speaks};
+ghost use Rattle.gl_job.specs.Points.{told_kind};
+ghost use Rattle.gl_job.specs.Texts.{status_of, line_of, Speaks};
+ghost use Rattle.gl_said.specs.Texts.{parts_text, told_text};
 ghost use Rattle.gl_lift.specs.Refusals.{cause_of};
 ghost use Rattle.gl_run.specs.Jobs.{lift_text};
-ghost use Rattle.gl_run.specs.Endings.{end_of, kind_of, text_of, is_done as is_done_of};
+ghost use Rattle.gl_run.specs.Endings.{end_of, kind_of, text_of, is_done};
 
-use gl_cells::LibFault;
-use gl_deck::DeckFault;
+use crate::kinds::{deck_kind, flat_kind, keep_kind, library_kind};
+use gl_cells::{LibFault, library_parts};
+use gl_deck::{DeckFault, deck_parts};
 use gl_desk::{Desk, Slot};
-use gl_flat::FlatFault;
-use gl_job::{Kind, Stop, one_text, say};
+use gl_flat::{FlatFault, flat_parts};
+use gl_job::{Kind, Stop, say};
+use gl_lib::keep_parts;
 use gl_lift::LiftFault;
-use gl_said::{
-    Parts, deck_kind, deck_parts, flat_kind, flat_parts, keep_kind, keep_parts, library_kind,
-    library_parts, not_yet_parts,
-};
+use gl_said::{Parts, one_text};
 
 /// How a run ends. A fault is that of the layer that answered.
 #[derive(Debug, Drop)]
@@ -29,11 +29,6 @@ pub enum Ending {
     Deck(DeckFault),
     /// The library is refused.
     Library(LibFault),
-    /// The library has an X card, which is not taken yet.
-    NotYet {
-        /// The line of the first such card, from 1.
-        line: u32,
-    },
     /// The deck is refused as it is flattened.
     Flat(FlatFault),
     /// The deck is refused as it is flattened, or a kept name is unknown.
@@ -64,15 +59,14 @@ fn lift_parts<'a>(fault: &'a LiftFault) -> Parts<'a>
 
 impl Ending {
     /// Whether all is written.
-    fn is_done(&self) -> bool
-        ensures done { result ≡ is_done_of self.now }
+    fn is_success(&self) -> bool
+        ensures done { result ≡ is_done self.now }
     {
         match self {
             Ending::Done => true,
             Ending::Words => false,
             Ending::Deck(_) => false,
             Ending::Library(_) => false,
-            Ending::NotYet { .. } => false,
             Ending::Flat(_) => false,
             Ending::Lift(_) => false,
             Ending::Stopped(_) => false,
@@ -88,7 +82,6 @@ impl Ending {
             Ending::Words => Kind::Words,
             Ending::Deck(fault) => deck_kind(Kind::Deck, fault),
             Ending::Library(fault) => library_kind(Kind::Library, fault),
-            Ending::NotYet { .. } => Kind::Library,
             Ending::Flat(fault) => flat_kind(Kind::Deck, fault),
             Ending::Lift(fault) => lift_kind(fault),
             Ending::Stopped(stop) => stop.kind(),
@@ -104,7 +97,6 @@ impl Ending {
             Ending::Words => one_text(""),
             Ending::Deck(fault) => deck_parts(fault),
             Ending::Library(fault) => library_parts(fault),
-            Ending::NotYet { line } => not_yet_parts(*line),
             Ending::Flat(fault) => flat_parts(fault),
             Ending::Lift(fault) => lift_parts(fault),
             Ending::Stopped(stop) => stop.parts(),
@@ -115,7 +107,7 @@ impl Ending {
     pub fn status(&self) -> u8
         ensures status { result ≡ status_of (end_of self.now) }
     {
-        if self.is_done() {
+        if self.is_success() {
             0
         } else {
             self.kind().status()
@@ -131,7 +123,7 @@ pub fn say_ending<D: Desk>(desk: &mut D, ending: &Ending)
     ensures others { OthersSame D.shows desk.old desk.new Slot.Says }
     ensures names { NamesSame D.held D.wants desk.old desk.new }
 {
-    if ending.is_done() {
+    if ending.is_success() {
         return;
     }
     say(desk, ending.kind(), &ending.parts());

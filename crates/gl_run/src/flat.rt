@@ -6,7 +6,7 @@ ghost use Rattle.gl_job.specs.Runs.{run_of, opening};
 ghost use Rattle.gl_job.specs.Courses.{Ends, Makes};
 ghost use Rattle.gl_job.specs.Points.{IsRead, IsNotRead};
 ghost use Rattle.gl_text.specs.Flattening.{flat_job};
-ghost use Rattle.gl_said.specs.Texts.{fault_text};
+ghost use Rattle.gl_deck.specs.Texts.{fault_text};
 ghost use Rattle.gl_words.specs.Names.{flat_names};
 ghost use Rattle.gl_run.specs.Jobs.{flat_course};
 ghost use Rattle.gl_run.specs.Endings.{end_of};

@@ -23,8 +23,6 @@ pub fn said_lines()
         ≡ codes "gatelift: 2 deck: 25 TopDevices line=5\n" }
     ensures library { line_of (end_of (endings.Library (cells.TopCard 3)))
         ≡ codes "gatelift: 3 library: 30 TopCard line=3\n" }
-    ensures not_yet { line_of (end_of (endings.NotYet 6))
-        ≡ codes "gatelift: 3 library: 60 NotYet line=6\n" }
     ensures long_deck { line_of (end_of (endings.Stopped (stops.LongFile Deck)))
         ≡ codes "gatelift: 6 limit: LongFile slot=Deck number=67108865\n" }
     ensures long_library { line_of (end_of (endings.Stopped (stops.LongFile Library)))

@@ -5,6 +5,7 @@ mod ending;
 mod flat;
 mod inputs;
 mod job;
+mod kinds;
 mod laws;
 mod lift;
 mod writing;
@@ -12,10 +13,3 @@ mod writing;
 pub use ending::Ending;
 pub use job::run;
 pub use laws::said_lines;
-
-#[cfg(test)]
-mod tests;
-#[cfg(test)]
-mod tests_flat;
-#[cfg(test)]
-mod tests_words;

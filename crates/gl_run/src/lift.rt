@@ -3,14 +3,15 @@ ghost use Rattle.std.specs.Prelude.{◌≡◌, ◌≢◌, [], ◌∷◌, true, f
 ghost use Rattle.gl_desk.specs.declared.slot.Slot.{Slot as Place};
 ghost use Rattle.gl_desk.specs.Desk.{OthersSame, NamesSame};
 ghost use Rattle.gl_text.specs.Decks.{read_deck};
-ghost use Rattle.gl_lift.specs.Lifting.{taken_library};
+ghost use Rattle.gl_base.specs.Libraries.{read_library};
 ghost use Rattle.gl_job.specs.Runs.{run_of, opening};
 ghost use Rattle.gl_job.specs.Courses.{Ends, Makes};
 ghost use Rattle.gl_job.specs.Points.{IsRead, IsNotRead};
 ghost use Rattle.gl_lift.specs.Liftable.{IsLiftable, IsSearchable};
-ghost use Rattle.gl_said.specs.Texts.{fault_text};
+ghost use Rattle.gl_deck.specs.Texts.{fault_text};
+ghost use Rattle.gl_cells.specs.Texts.{cell_text};
 ghost use Rattle.gl_words.specs.Names.{lift_names};
-ghost use Rattle.gl_run.specs.Jobs.{lift_course, lift_outs, library_text};
+ghost use Rattle.gl_run.specs.Jobs.{lift_course, lift_outs};
 ghost use Rattle.gl_run.specs.Endings.{end_of};
 
 use crate::ending::Ending;
@@ -43,10 +44,10 @@ fn read_deck_file<D: Desk>(alloc: Global, desk: &mut D, word: &str) -> Result<De
 /// Reads the library by its word.
 fn read_library_file<D: Desk>(alloc: Global, desk: &mut D, word: &str) -> Result<Library, Ending>
     requires free { (D.shows desk.old Slot.Library).used ≡ false }
-    ensures library { IfOk result (λ library. IsRead taken_library
+    ensures library { IfOk result (λ library. IsRead read_library
         (opening Slot.Library word.now) library (run_of D.shows D.held D.wants desk.old desk.new)) }
     ensures known { IfOk result IsSearchable }
-    ensures none { IfErr result (λ ending. IsNotRead Kind.Library library_text taken_library
+    ensures none { IfErr result (λ ending. IsNotRead Kind.Library cell_text read_library
         (opening Slot.Library word.now) (end_of ending) (run_of D.shows D.held D.wants desk.old desk.new)) }
     ensures others { OthersSame D.shows desk.old desk.new Slot.Library }
     ensures names { NamesSame D.held D.wants desk.old desk.new }

@@ -6,7 +6,7 @@ use Rattle.gl_desk.specs.declared.slot.Slot.TheVariants.{Deck}
 use Rattle.gl_job.specs.declared.kind.Kind.TheVariants as kinds
 use Rattle.gl_job.specs.Runs.{run_of, opening, IsWhole}
 use Rattle.gl_job.specs.Points.{IsRead, IsNotRead}
-use Rattle.gl_said.specs.Texts.{fault_text}
+use Rattle.gl_deck.specs.Texts.{fault_text}
 use Rattle.gl_run.specs.Endings.{end_of}
 use Rattle.gl_run.proofs.Reading.{read_of, not_read_of, stopped_of}
 use Rattle.gl_run.proofs.flat.make_flat.Goals as goal

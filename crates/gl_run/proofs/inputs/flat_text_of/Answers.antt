@@ -9,9 +9,9 @@ returns-in-Err-clause-refused c = read_refuses (option_copied c.args.top) c.args
 
 pub returns-clause-refused : goal.returns-clause-refused
 returns-clause-refused c =
-    flatten_refused (option_copied c.args.top) c.args.bytes.now c.in-Ok.deck (fault_of c.in-Err-text_of.fault) c.in-Ok.ensures.deck c.in-Err-text_of.ensures.gives
+    flatten_refused (option_copied c.args.top) c.args.bytes.now c.in-Ok.deck (fault_of c.in-Err-text_of_deck.fault) c.in-Ok.ensures.deck c.in-Err-text_of_deck.ensures.gives
 
-pub returns-in-Ok-text_of-clause-text : goal.returns-in-Ok-text_of-clause-text
-returns-in-Ok-text_of-clause-text c =
-    let given = c.in-Ok-text_of.ensures.gives in
-    flat_text_is (option_copied c.args.top) c.args.bytes.now c.in-Ok.deck given.0 c.in-Ok-text_of.text.items c.in-Ok.ensures.deck given.1 given.2
+pub returns-in-Ok-text_of_deck-clause-text : goal.returns-in-Ok-text_of_deck-clause-text
+returns-in-Ok-text_of_deck-clause-text c =
+    let given = c.in-Ok-text_of_deck.ensures.gives in
+    flat_text_is (option_copied c.args.top) c.args.bytes.now c.in-Ok.deck given.0 c.in-Ok-text_of_deck.text.items c.in-Ok.ensures.deck given.1 given.2

@@ -1,13 +1,9 @@
-use Rattle.std.proofs.Common.{sym, ◌∙◌}
+use Rattle.gl_base.specs.Libraries.{read_library}
 use Rattle.gl_cells.specs.Causes.{cause_of}
-use Rattle.gl_run.proofs.Bytes.{library_refused, library_calls, library_taken}
+use Rattle.gl_job.specs.declared.kind.Kind.TheVariants as kinds
+use Rattle.gl_job.proofs.Points.{told_refuses}
+use Rattle.gl_cells.specs.Texts.{cell_text}
 use Rattle.gl_run.proofs.inputs.library_of.Goals as goal
 
 pub returns-in-Err-clause-refused : goal.returns-in-Err-clause-refused
-returns-in-Err-clause-refused c = library_refused c.args.bytes.now (cause_of c.in-Err.fault) c.in-Err.ensures.reads
-
-pub returns-in-Some-clause-refused : goal.returns-in-Some-clause-refused
-returns-in-Some-clause-refused c = library_calls c.args.bytes.now c.in-Ok.library c.in-Some.line c.in-Ok.ensures.reads (sym c.first_call.ensures.first ∙ c.in-Some.is)
-
-pub returns-in-None-clause-library : goal.returns-in-None-clause-library
-returns-in-None-clause-library c = library_taken c.args.bytes.now c.in-Ok.library c.in-Ok.ensures.reads (sym c.first_call.ensures.first ∙ c.in-None.is)
+returns-in-Err-clause-refused c = told_refuses kinds.Library cell_text (cause_of c.in-Err.fault) (read_library c.args.bytes.now) c.in-Err.ensures.reads

@@ -3,16 +3,18 @@ use Rattle.std.specs.Prelude.{Option, Ok}
 use Rattle.std.specs.Option.{option_copied}
 use Rattle.gl_fault.specs.Refusals.{IsRefusal}
 use Rattle.gl_text.specs.Decks.{read_deck}
-use Rattle.gl_lift.specs.Lifting.{taken_library, lifted_flat, IsLiftReport}
+use Rattle.gl_lift.specs.Lifting.{lifted_flat, IsLiftReport}
 use Rattle.gl_desk.specs.declared.slot.Slot.{Slot}
 use Rattle.gl_desk.specs.declared.slot.Slot.TheVariants.{Deck, Library}
+use Rattle.gl_base.specs.Libraries.{read_library}
 use Rattle.gl_job.specs.declared.kind.Kind.TheVariants as kinds
 use Rattle.gl_job.specs.Runs.{Run, run_of, opening, AreRest}
 use Rattle.gl_job.specs.Points.{IsRead, IsNotRead}
 use Rattle.gl_job.proofs.Points.{read_same, not_read_same, told_refuses}
 use Rattle.gl_lift.specs.Refusals.{cause_of}
 use Rattle.gl_words.specs.Names.{lift_names}
-use Rattle.gl_run.specs.Jobs.{library_text, lift_text}
+use Rattle.gl_cells.specs.Texts.{cell_text}
+use Rattle.gl_run.specs.Jobs.{lift_text}
 use Rattle.gl_run.specs.Endings.{end_of}
 use Rattle.gl_run.proofs.Courses.{lift_no_deck, lift_no_library, lift_refused, lift_made}
 use Rattle.gl_run.proofs.lift.make_lift.Goals as goal
@@ -30,7 +32,7 @@ returns-in-Err-read_library_file-clause-unmade g c =
     let r = run_of g.D.Desk.shows g.D.Desk.held g.D.Desk.wants c.args.desk.now c.read_library_file.new.desk in
     let deck : IsRead (read_deck true) (opening Deck words.deck) c.in-Ok.deck r = read_same (read_deck true) (opening Deck words.deck) c.in-Ok.deck m r
     (record { before = refl; after = sym (c.read_library_file.ensures.others Deck (λ e. absurd cc)); wanted = refl }) refl c.in-Ok.ensures.deck in
-    let none : IsNotRead kinds.Library library_text taken_library (opening Library words.library) (end_of c.in-Err-read_library_file.ending) r = not_read_same kinds.Library library_text taken_library (opening Library words.library) (end_of c.in-Err-read_library_file.ending) s r
+    let none : IsNotRead kinds.Library cell_text read_library (opening Library words.library) (end_of c.in-Err-read_library_file.ending) r = not_read_same kinds.Library cell_text read_library (opening Library words.library) (end_of c.in-Err-read_library_file.ending) s r
     (record { before = c.read_deck_file.ensures.others Library (λ e. absurd cc); after = refl; wanted = c.read_deck_file.ensures.names.same_wants Library }) (c.read_deck_file.ensures.names.same_held Library words.library) c.in-Err-read_library_file.ensures.none in
     lift_no_library words c.in-Ok.deck (end_of c.in-Err-read_library_file.ending) r deck none (λ slot apart quiet. c.read_library_file.ensures.others slot apart.0 ∙ c.read_deck_file.ensures.others slot apart.1.0)
 
@@ -42,7 +44,7 @@ returns-clause-unmade g c =
     let r = run_of g.D.Desk.shows g.D.Desk.held g.D.Desk.wants c.args.desk.now c.read_library_file.new.desk in
     let deck : IsRead (read_deck true) (opening Deck words.deck) c.in-Ok.deck r = read_same (read_deck true) (opening Deck words.deck) c.in-Ok.deck m r
     (record { before = refl; after = sym (c.read_library_file.ensures.others Deck (λ e. absurd cc)); wanted = refl }) refl c.in-Ok.ensures.deck in
-    let library : IsRead taken_library (opening Library words.library) c.in-Ok-read_library_file.library r = read_same taken_library (opening Library words.library) c.in-Ok-read_library_file.library s r
+    let library : IsRead read_library (opening Library words.library) c.in-Ok-read_library_file.library r = read_same read_library (opening Library words.library) c.in-Ok-read_library_file.library s r
     (record { before = c.read_deck_file.ensures.others Library (λ e. absurd cc); after = refl; wanted = c.read_deck_file.ensures.names.same_wants Library }) (c.read_deck_file.ensures.names.same_held Library words.library) c.in-Ok-read_library_file.ensures.library in
     let by-keep = subst (λ (keep : List (List ℕ)). IsRefusal (cause_of c.in-Err-report_of.fault) (lifted_flat (option_copied c.as_ref.result) keep c.in-Ok.deck c.in-Ok-read_library_file.library)) c.deref.ensures.value c.in-Err-report_of.ensures.gives in
     let gives = subst (λ (top : Option (List ℕ)). IsRefusal (cause_of c.in-Err-report_of.fault) (lifted_flat top words.keep c.in-Ok.deck c.in-Ok-read_library_file.library)) c.as_ref.ensures.value by-keep in
@@ -58,7 +60,7 @@ returns-in-Ok-report_of-clause-made g c =
     let r = run_of g.D.Desk.shows g.D.Desk.held g.D.Desk.wants c.args.desk.now c.read_library_file.new.desk in
     let deck : IsRead (read_deck true) (opening Deck words.deck) c.in-Ok.deck r = read_same (read_deck true) (opening Deck words.deck) c.in-Ok.deck m r
     (record { before = refl; after = sym (c.read_library_file.ensures.others Deck (λ e. absurd cc)); wanted = refl }) refl c.in-Ok.ensures.deck in
-    let library : IsRead taken_library (opening Library words.library) c.in-Ok-read_library_file.library r = read_same taken_library (opening Library words.library) c.in-Ok-read_library_file.library s r
+    let library : IsRead read_library (opening Library words.library) c.in-Ok-read_library_file.library r = read_same read_library (opening Library words.library) c.in-Ok-read_library_file.library s r
     (record { before = c.read_deck_file.ensures.others Library (λ e. absurd cc); after = refl; wanted = c.read_deck_file.ensures.names.same_wants Library }) (c.read_deck_file.ensures.names.same_held Library words.library) c.in-Ok-read_library_file.ensures.library in
     let given = c.in-Ok-report_of.ensures.gives in
     let by-keep = subst (λ (keep : List (List ℕ)). lifted_flat (option_copied c.as_ref.result) keep c.in-Ok.deck c.in-Ok-read_library_file.library ≡ Ok given.0) c.deref.ensures.value given.1 in

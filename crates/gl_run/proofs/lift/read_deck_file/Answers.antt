@@ -3,7 +3,7 @@ use Rattle.gl_text.specs.Decks.{read_deck}
 use Rattle.gl_desk.specs.declared.slot.Slot.TheVariants.{Deck}
 use Rattle.gl_job.specs.declared.kind.Kind.TheVariants as kinds
 use Rattle.gl_job.specs.Runs.{run_of, opening, IsWhole}
-use Rattle.gl_said.specs.Texts.{fault_text}
+use Rattle.gl_deck.specs.Texts.{fault_text}
 use Rattle.gl_run.proofs.Reading.{read_of, not_read_of, stopped_of}
 use Rattle.gl_run.proofs.lift.read_deck_file.Goals as goal
 
