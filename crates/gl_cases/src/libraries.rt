@@ -10,7 +10,7 @@ const ROWS: [Row; 13] = [
     (
         "three kinds of skipped cells",
         ".subckt fill a b\n.ends\n.subckt odd a b\nr1 a 0 1\n.ends\n.subckt inv a y\nmp y a vdd vdd pch\nmn y a 0 0 nch\n.ends\n.subckt dbl a y\nx1 a m inv\nx2 m y fill\n.ends\n",
-        "0 empty;0 loose b;0;1 uses fill; call 11",
+        "0 empty;0 loose b;0;1 uses fill;",
     ),
     (
         "the first loose port",
@@ -20,13 +20,13 @@ const ROWS: [Row; 13] = [
     (
         "the first skipped cell by its cards",
         ".subckt e a\n.ends\n.subckt l a\nr1 b 0 1\n.ends\n.subckt f a\nr1 a 0 1\n.ends\n.subckt t a\nx1 a f\nx2 a l\nx3 a e\n.ends\n",
-        "0 empty;0 loose a;0;1 uses l; call 10",
+        "0 empty;0 loose a;0;1 uses l;",
     ),
     ("nothing", "", ""),
     (
         "levels, where calls stand before what they call and behind it",
         ".subckt z q\nx9 q k\nx7 q j\nx8 q h\n.ends\n.subckt h q\nr2 q 0 1\nx5 q j\n.ends\n.subckt j q\nr2 q 0 1\n.ends\n.subckt k q\nx6 q j\nx5 q h\n.ends\n",
-        "3;1;0;2; call 2",
+        "3;1;0;2;",
     ),
     (
         "the deck is refused first",
@@ -102,13 +102,10 @@ fn put_cell(text: &mut String, cell: &LibCell) -> Result<(), AllocError> {
     text.push_str(";")
 }
 
-/// What is said of the cells, in order, and the line of the first X card.
+/// What is said of the cells, in order.
 fn put_library(text: &mut String, library: &Library) -> Result<(), AllocError> {
     for cell in library.cells() {
         put_cell(text, cell)?;
-    }
-    if let Some(line) = library.first_call() {
-        write!(text, " call {line}")?;
     }
     Ok(())
 }
