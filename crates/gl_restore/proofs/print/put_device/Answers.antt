@@ -1,0 +1,19 @@
+use Rattle.std.proofs.Common.{◌≡◌, ◌∙◌, ◌++◌, ◌∷◌, [], ap, map}
+use Rattle.std.specs.Prelude.{option_to_list}
+use Rattle.gl_text.specs.Cards.{spaced}
+use Rattle.gl_card.specs.Lines.{spaced_all}
+use Rattle.gl_deck.proofs.PrintingLaws.{one_more}
+use Rattle.gl_base.specs.Reports.{name_at}
+use Rattle.gl_flat.proofs.PrintingLaws.{device_words}
+use Rattle.gl_restore.proofs.print.put_device.Goals as goal
+
+pub returns-clause-ok : goal.returns-clause-ok
+returns-clause-ok c =
+    let out = c.args.out.now.items in
+    let nets = map (λ n. n.now) c.args.nets.now in
+    let d = c.args.back.now in
+    let a : c.put.new.out.items ≡ out ++ d.name = c.in_ok-put.ensures.ok ∙ ap (λ t. out ++ t) (c.as_bytes.ensures.bytes ∙ c.name.ensures.name) in
+    let b = one_more (λ ns. spaced_all (map (name_at nets) ns)) _ _ _ _ _ c.in_ok-put_nodes.ensures.ok c.nets.ensures.nets a in
+    let e = c.in_ok-put_model.ensures.ok ∙ ap (λ m. c.put_nodes.new.out.items ++ spaced_all (option_to_list m)) c.model.ensures.model ∙ ap (λ t. t ++ spaced_all (option_to_list d.model)) b in
+    let f = one_more spaced _ _ _ _ _ c.in_ok-put_tail.ensures.ok (c.as_bytes-2.ensures.bytes ∙ c.tail.ensures.tail) e in
+    c.in_ok-put-2.ensures.ok ∙ ap (λ t. t ++ 10 ∷ []) f ∙ device_words out d.name (map (name_at nets) d.nets) d.model d.tail

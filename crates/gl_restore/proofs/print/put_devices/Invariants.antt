@@ -1,0 +1,7 @@
+use Rattle.std.proofs.Common.{◌≡◌, ◌++◌, take, map}
+use Rattle.std.specs.Prelude.{flat_map}
+use Rattle.gl_flat.specs.Kept.{device_line}
+use Rattle.gl_restore.proofs.print.put_devices.Given as goal
+
+abbrev pub invariant-loop-back : goal.invariant-loop-back
+invariant-loop-back l = l.out.items ≡ l.fn.out.items ++ flat_map (device_line (map (λ n. n.now) l.nets)) (take l.back-index l.backs)

@@ -1,0 +1,142 @@
+ghost use Rattle.std.specs.Prelude.{◌≡◌, ◌+◌, ◌<◌, ◌^◌, ◌++◌, None, OnOk, OnErr, IfOk, IfErr, is_ok, length, map, take, if◌then◌else◌};
+ghost use Rattle.gl_text.specs.Flattening.{flat_text};
+ghost use Rattle.gl_lifting.specs.Renaming as renaming;
+ghost use Rattle.gl_lifting.specs.Renaming.{old_name};
+ghost use Rattle.gl_restore.specs.Refusals.{Gives, GivesOf, IsFaultIn};
+ghost use Rattle.gl_restore.specs.Backs.{kept_name, line_fault, name_fault};
+
+use crate::back::{Back, backs_of};
+use crate::devices::Devices;
+use crate::lines::Lines;
+use crate::print::put_deck;
+use crate::refused::{
+    old_nets, refuse_device_merges, refuse_extra_devices, refuse_extra_nets, refuse_letters,
+    refuse_missing, refuse_net_merges,
+};
+use crate::{Flat, Memory, Name, NameMap, RestoreFault};
+use gl_flat::{KeptDevice, Names};
+use std::alloc::Global;
+use std::marker::Model;
+
+/// A flat deck under the old names of a map. Contracts see it as a flat deck.
+#[derive(Drop)]
+pub struct Restored<'a> {
+    flat: &'a Flat,
+    /// The old name of each net, by its number.
+    nets: Vec<&'a Name>,
+    /// The devices under their old names, in the map's order.
+    devices: Vec<Back<'a>>,
+}
+
+impl<'a> Model for Restored<'a> {
+    ghost use Rattle.std.specs.Prelude.{map};
+    ghost use Rattle.gl_text.specs.Flattening.{Flat as FlatValue};
+    ghost use Rattle.gl_restore.specs.Backs.{flat_with};
+
+    ghost Value = { FlatValue };
+
+    ghost view = { λ r. flat_with r.flat.now (map (λ n. n.now) r.nets.items) r.devices.items };
+}
+
+/// The old names of nets, in their order; or the first device or net that has no line.
+fn named_nets<'a>(
+    alloc: Global,
+    devices: &[KeptDevice],
+    nets: &[Name],
+    names: &'a NameMap,
+) -> Result<Vec<&'a Name>, RestoreFault>
+    ensures ok { OnOk result (name_fault (map kept_name devices.now) nets.now names.now ≡ None) }
+    ensures olds { IfOk result (λ olds.
+        map (λ n. n.now) olds.items ≡ map (old_name names.now.nets) nets.now) }
+    ensures refused { IfErr result
+        (IsFaultIn (name_fault (map kept_name devices.now) nets.now names.now)) }
+{
+    let device_lines = Lines::of(alloc, names.devices())?;
+    refuse_missing(alloc, &device_lines, devices)?;
+    let net_lines = Lines::of(alloc, names.nets())?;
+    let olds = old_nets(alloc, &net_lines, nets)?;
+    Ok(olds)
+}
+
+/// Refuses the first line of a map that devices, nets and the map's other lines do not allow.
+fn refuse_lines(
+    alloc: Global,
+    devices: &Devices<'_>,
+    nets: &Names,
+    names: &NameMap,
+) -> Result<(), RestoreFault>
+    requires few { length names.now.devices + length names.now.nets + 2 < 2 ^ 32 }
+    ensures ok { OnOk result (line_fault (map kept_name devices.now) nets.now names.now ≡ None) }
+    ensures refused { IfErr result
+        (IsFaultIn (line_fault (map kept_name devices.now) nets.now names.now)) }
+{
+    let behind = 2 + names.devices().len() as u32;
+    refuse_extra_devices(devices, names.devices())?;
+    refuse_extra_nets(nets, behind, names.nets())?;
+    refuse_net_merges(alloc, behind, names.nets())?;
+    refuse_letters(names.devices())?;
+    refuse_device_merges(alloc, names.devices())?;
+    Ok(())
+}
+
+/// Appends a flat deck under its old names. What stood before stays, also where no memory is found.
+fn put_restored(out: &mut Vec<u8>, restored: &Restored<'_>) -> Result<(), Memory>
+    ensures ok { OnOk result (out.new.items ≡ out.old.items ++ flat_text restored.now) }
+    ensures front { take (length out.old.items) out.new.items ≡ out.old.items }
+{
+    put_deck(out, restored.flat, &restored.nets, &restored.devices)?;
+    Ok(())
+}
+
+impl<'a> Restored<'a> {
+    /// The devices and nets of a flat deck under the old names of a map, the devices in the map's order, or the first refusal.
+    /// Title, rails, models, the top's head and passed cards stay. The time goes by the devices, the nets and the lines.
+    pub fn of(
+        alloc: Global,
+        flat: &'a Flat,
+        names: &'a NameMap,
+    ) -> Result<Restored<'a>, RestoreFault>
+        requires few { length names.now.devices + length names.now.nets + 2 < 2 ^ 32 }
+        ensures restored { Gives result (renaming.restore flat.now names.now) }
+    {
+        let olds = named_nets(alloc, flat.devices(), flat.nets().items(), names)?;
+        let kept = Devices::of(alloc, flat.devices())?;
+        refuse_lines(alloc, &kept, flat.nets(), names)?;
+        let backs = backs_of(alloc, &kept, names.devices())?;
+        Ok(Restored {
+            flat,
+            nets: olds,
+            devices: backs,
+        })
+    }
+
+    /// Appends the text of the flat deck. Without memory for all of it nothing is appended.
+    pub fn print(&self, out: &mut Vec<u8>) -> Result<(), Memory>
+        ensures printed { out.new.items
+            ≡ (if is_ok result then out.old.items ++ flat_text self.now else out.old.items) }
+    {
+        let start = out.len();
+        if put_restored(out, self).is_err() {
+            out.truncate(start);
+            return Err(Memory);
+        }
+        Ok(())
+    }
+}
+
+/// Appends the text of a flat deck under the old names of a map, or gives the first refusal; then nothing is appended.
+pub fn restore(
+    alloc: Global,
+    flat: &Flat,
+    names: &NameMap,
+    out: &mut Vec<u8>,
+) -> Result<(), RestoreFault>
+    requires few { length names.now.devices + length names.now.nets + 2 < 2 ^ 32 }
+    ensures restored { GivesOf (λ v f. out.new.items ≡ out.old.items ++ flat_text f)
+        result (renaming.restore flat.now names.now) }
+    ensures unchanged { OnErr result (out.new.items ≡ out.old.items) }
+{
+    let restored = Restored::of(alloc, flat, names)?;
+    restored.print(out)?;
+    Ok(())
+}
