@@ -1,17 +1,15 @@
 -- What is known of a library that was read.
 use Rattle.gl_fault.proofs.FirstLaws.{none_first, none_each, or_else_ok}
-use Rattle.gl_fault.specs.Refusals.{when, first_some, or_else}
+use Rattle.gl_fault.specs.Refusals.{when, or_else}
 use Rattle.std.proofs.Common.{◌≡◌, ◌<◌, ◌≤◌, ◌∙◌, ℕ, zero, suc, List, [], ◌∷◌, ◌++◌, length, map, cond, Bool, true, false, Option, Some, None, Result, Ok, Err, All, refl, sym, ap, subst, arith}
 use Rattle.std.specs.Prelude.{◌&&◌, find, flat_map, nat_lt, not, option_map, slice_get}
 use Rattle.std.specs.List.{list_all}
 use Rattle.std.proofs.lemmas.Bool.Decides.{nat_tests}
-use Rattle.std.proofs.lemmas.List.Elements.{All-cons, All-head, All-tail}
+use Rattle.std.proofs.lemmas.List.Elements.{All-head, All-tail}
 use Rattle.gl_text.specs.LogicalLines.{FILE, Fault}
 use Rattle.gl_text.specs.Decks.{Body, dev_at, call_at, Sub, Deck, callees, is_in, read_deck}
 use Rattle.gl_text.specs.CellCards.{devices_in, IsCellOf}
-use Rattle.gl_printed.specs.ReadDecks.{IsReadDeck}
 use Rattle.gl_known.specs.Known.{IsKnownDeck, IsKnownSub}
-use Rattle.gl_printed.proofs.ReadDeckLaws.{read_fine}
 use Rattle.gl_known.proofs.DecksRead.{file_read}
 use Rattle.gl_base.specs.Libraries.{CELLS, CELL_CARDS, PORTS, LEVEL, CELL_EXPANDED, Cause, Cell, Library, Skip, cells_cause, cell_of, checked, clash_cause, clash_of_cell, empty_else, library_cause, library_of, limit_cause, loose, loose_port, nodes_of, own_skip, read_library, skip_of, top_cause, uses_else}
 use Rattle.gl_cells.specs.Limited.{clashes_cause, limits_cause}

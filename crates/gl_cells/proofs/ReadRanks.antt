@@ -1,6 +1,6 @@
 -- A deck that was read has a rank, and so levels and skipped cells of a library that was read are settled.
 use Rattle.std.proofs.Common.{◌≡◌, ◌<◌, ℕ, List, [], ◌∷◌, length, Bool, false, Option, Ok, sym, subst, refl}
-use Rattle.std.specs.Prelude.{IfSome, IsSome}
+use Rattle.std.specs.Prelude.{Contains, IfSome, IsSome}
 use Rattle.std.specs.List.{AllByRecursion}
 use Rattle.gl_text.specs.Decks.{Body, dev_at, call_at, Sub, Deck, callees, find_sub, reaches, read_deck}
 use Rattle.gl_text.specs.Levels.{Down}
@@ -8,7 +8,7 @@ use Rattle.gl_printed.specs.ReadDecks.{FindsSubWithin, IsReadDeck, IsReadSub}
 use Rattle.gl_printed.proofs.Each.{each_to}
 use Rattle.gl_printed.proofs.ReadDeckLaws.{read_fine}
 use Rattle.gl_deck.specs.Ranks.{HasRank}
-use Rattle.gl_deck.proofs.Members.{In, all_in, all_of}
+use Rattle.gl_lists.proofs.Each.{each_in, each_from}
 use Rattle.gl_deck.proofs.RankLaws.{ranked_below}
 use Rattle.gl_base.specs.Libraries.{Library, read_library}
 use Rattle.gl_cells.specs.Settled.{HasSettledLevel, HasSettledSkip}
@@ -43,20 +43,20 @@ library_ranked bytes l e =
     let h = from_checked (read_deck false bytes) l e in
     subst (λ (m : Library). HasRank m.deck.subs (length m.deck.subs)) h.2.1 (bytes_ranked false bytes h.0 h.1)
 
-own_down : (rank : List ℕ → ℕ) (subs : List Sub) (s : Sub) → Down rank subs → In s subs → Down rank (s ∷ [])
-own_down rank subs s down i = (all_in (λ (t : Sub). AllByRecursion (λ n. rank n < rank t.head.name) (callees t.cards)) s subs i down, tt)
+own_down : (rank : List ℕ → ℕ) (subs : List Sub) (s : Sub) → Down rank subs → Contains subs s → Down rank (s ∷ [])
+own_down rank subs s down i = (each_in (λ (t : Sub). AllByRecursion (λ n. rank n < rank t.head.name) (callees t.cards)) subs s down i, tt)
 
-own_low : (rank : List ℕ → ℕ) (subs : List Sub) (s : Sub) (n : ℕ) → AllByRecursion (λ (t : Sub). rank t.head.name < n) subs → In s subs → rank s.head.name < n
-own_low rank subs s n low i = all_in (λ (t : Sub). rank t.head.name < n) s subs i low
+own_low : (rank : List ℕ → ℕ) (subs : List Sub) (s : Sub) (n : ℕ) → AllByRecursion (λ (t : Sub). rank t.head.name < n) subs → Contains subs s → rank s.head.name < n
+own_low rank subs s n low i = each_in (λ (t : Sub). rank t.head.name < n) subs s low i
 
 pub levels_settled : (bytes : List ℕ) (l : Library) → read_library bytes ≡ Ok l → AllByRecursion (HasSettledLevel l.deck.subs) l.deck.subs
 levels_settled bytes l e =
     let h = library_ranked bytes l e in
     let subs = l.deck.subs in
-    all_of (HasSettledLevel subs) subs (λ s i. level_is h.rank subs s h.down (own_down h.rank subs s h.down i) (own_low h.rank subs s (length subs) h.below i))
+    each_from (HasSettledLevel subs) subs (λ s i. level_is h.rank subs s h.down (own_down h.rank subs s h.down i) (own_low h.rank subs s (length subs) h.below i))
 
 pub skips_settled : (bytes : List ℕ) (l : Library) → read_library bytes ≡ Ok l → AllByRecursion (HasSettledSkip l.deck.subs) l.deck.subs
 skips_settled bytes l e =
     let h = library_ranked bytes l e in
     let subs = l.deck.subs in
-    all_of (HasSettledSkip subs) subs (λ s i. skip_is h.rank subs s h.down (own_down h.rank subs s h.down i) (own_low h.rank subs s (length subs) h.below i))
+    each_from (HasSettledSkip subs) subs (λ s i. skip_is h.rank subs s h.down (own_down h.rank subs s h.down i) (own_low h.rank subs s (length subs) h.below i))

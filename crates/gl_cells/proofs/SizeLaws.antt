@@ -1,11 +1,11 @@
 -- The cells of a deck whose size is known have few cards and ports.
-use Rattle.std.proofs.Common.{◌≤◌, ℕ, List, [], ◌∷◌, length, arith, inl, inr, ap}
-use Rattle.std.specs.Prelude.{sum_by}
+use Rattle.std.proofs.Common.{◌≤◌, List, [], ◌∷◌, length, arith, zero, suc, ap}
+use Rattle.std.specs.Prelude.{Contains, sum_by}
 use Rattle.std.proofs.lemmas.List.Sums.{sum_by-cons}
 use Rattle.gl_text.specs.LogicalLines.{FILE}
 use Rattle.gl_text.specs.Decks.{Body, dev_at, call_at, Sub, Deck}
 use Rattle.gl_known.specs.Known.{IsKnownDeck, body_size, sub_size}
-use Rattle.gl_deck.proofs.Members.{In, among_in}
+use Rattle.gl_deck.proofs.Members.{among_in}
 use Rattle.gl_cells.specs.Limited.{AreCountable}
 
 some_size : (card : Body) → 1 ≤ body_size card
@@ -20,14 +20,14 @@ cards_sized (card ∷ cards) =
     let c = sum_by-cons body_size card cards in
     omega arith
 
-one_of : (s : Sub) (subs : List Sub) → In s subs → sub_size s ≤ sum_by sub_size subs
-one_of s [] i = absurd i
-one_of s (t ∷ subs) (inl e) =
+one_of : (s : Sub) (subs : List Sub) → Contains subs s → sub_size s ≤ sum_by sub_size subs
+one_of s [] (k, lt, e) = absurd (omega (arith, lt))
+one_of s (t ∷ subs) (zero, lt, e) =
     let a = ap sub_size e in
     let b = sum_by-cons sub_size t subs in
     omega arith
-one_of s (t ∷ subs) (inr i) =
-    let a = one_of s subs i in
+one_of s (t ∷ subs) (suc k, lt, e) =
+    let a = one_of s subs (k, omega (arith, lt), e) in
     let b = sum_by-cons sub_size t subs in
     omega arith
 

@@ -1,5 +1,5 @@
 -- Cards, cells and decks of the rows, and what is said of cells.
-use Rattle.std.specs.Prelude.{◌≡◌, ℕ, List, [], ◌∷◌, Option, None, Some, codes, replicate}
+use Rattle.std.specs.Prelude.{◌≡◌, ℕ, List, [], ◌∷◌, None, Some, codes, replicate}
 use Rattle.gl_text.specs.Decks.{Body, dev_at, call_at, Sub, Deck}
 use Rattle.gl_base.specs.Libraries.{Cell, Library, Skip}
 

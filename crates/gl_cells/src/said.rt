@@ -3,7 +3,7 @@ ghost use Rattle.std.specs.Prelude.{◌≡◌, [], codes};
 ghost use Rattle.gl_deck.specs.Refusals.{fault_of};
 ghost use Rattle.gl_cells.specs.Causes.{cause_of, limit_of};
 ghost use Rattle.gl_cells.specs.Texts.{cell_text, limit_name, reading_of};
-ghost use Rattle.gl_said.specs.Texts.{numbered, named, parts_text, told_text};
+ghost use Rattle.gl_said.specs.Texts.{numbered, named, parts_text, text_if_any};
 
 use crate::{DeckFault, LibFault, Limit, Name};
 use gl_deck::deck_parts;
@@ -88,7 +88,7 @@ fn reading_fault(fault: &LibFault) -> DeckFault
 
 /// What is said of a refusal of a library; nothing of want of memory.
 pub fn library_parts<'a>(fault: &'a LibFault) -> Parts<'a>
-    ensures text { parts_text result ≡ told_text cell_text (cause_of fault.now) }
+    ensures text { parts_text result ≡ text_if_any cell_text (cause_of fault.now) }
 {
     match fault {
         LibFault::TopCard { line } => one("30 TopCard line=", *line),

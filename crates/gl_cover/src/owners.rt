@@ -1,7 +1,7 @@
 //! Which chosen instance has each device.
 ghost use Rattle.std.specs.Prelude.{◌≡◌, ◌<◌, ◌≤◌, ◌+◌, ◌^◌, ℕ, [], length, All, IfOk, List, Some, if◌then◌else◌};
 ghost use Rattle.gl_match.specs.Graph.{is_in};
-ghost use Rattle.gl_cover.specs.Owners.{Keeps, least_owner as least_owner_by, owner_at};
+ghost use Rattle.gl_cover.specs.Owners.{Keeps, least_owner, owner_at};
 ghost use Rattle.gl_match.specs.Picks.{chosen_after, pick_after};
 
 use gl_match::{DevId, Memory, Pick};
@@ -29,9 +29,9 @@ pub fn nobody(alloc: Global, devices: u32, first: u32) -> Result<Owners, Memory>
 }
 
 /// The least number of a chosen instance that has a device of the set.
-fn least_owner(numbers: &[Option<u32>], set: &[DevId]) -> Option<u32>
+fn number_over(numbers: &[Option<u32>], set: &[DevId]) -> Option<u32>
     requires below { All (λ dev. dev < length numbers.now) set.now }
-    ensures least { result ≡ least_owner_by numbers.now set.now }
+    ensures least { result ≡ least_owner numbers.now set.now }
 {
     let mut least: Option<u32> = None;
     for dev in set {
@@ -70,7 +70,7 @@ pub fn pick(owners: &mut Owners, set: &[DevId]) -> Pick
     ensures next { owners.new.next ≤ owners.old.next + 1 }
     ensures devices { length owners.new.numbers.items ≡ length owners.old.numbers.items }
 {
-    if let Some(number) = least_owner(&owners.numbers, set) {
+    if let Some(number) = number_over(&owners.numbers, set) {
         return Pick::Over(number);
     }
     let number = owners.next;

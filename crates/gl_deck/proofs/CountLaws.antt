@@ -1,13 +1,13 @@
 -- How often subcircuits are called: by some cards, by all subcircuits, and by those that have no number yet.
 use Rattle.std.proofs.Common.{◌≡◌, ◌≢◌, ◌+◌, ◌<◌, ◌≤◌, ℕ, zero, suc, List, [], ◌∷◌, ◌++◌, length, cond, eqb, Bool, true, false, Option, Some, None, set, get_or, replicate, refl, sym, ap, subst, ◌∙◌, arith, inl, inr}
-use Rattle.std.specs.Prelude.{◌⊎◌, slice_get}
+use Rattle.std.specs.Prelude.{Contains, ◌⊎◌, slice_get}
 use Rattle.std.proofs.lemmas.Bool.{cases_Bool, eqb-true, eq-eqb}
 use Rattle.std.proofs.lemmas.List.Sums.{sum_by-append, sum_by-cons}
 use Rattle.gl_text.specs.Decks.{Sub, Body, dev_at, call_at, callees}
 use Rattle.gl_text.specs.Cards.{Device}
 use Rattle.gl_deck.specs.Places.{place_in, place_called}
 use Rattle.gl_deck.specs.CallCounts.{is_place, calls_on, calls_from, times}
-use Rattle.gl_deck.proofs.Members.{In}
+use Rattle.gl_lists.proofs.Membership.{in_head, in_tail, in_none}
 
 -- ---- places
 
@@ -40,25 +40,25 @@ card_more subs card cards p = sum_by-cons (λ b. cond (is_place p (place_called 
 dev_more : (subs : List Sub) (line : ℕ) (d : Device) (cards : List Body) (p : ℕ) → calls_on subs (dev_at line d ∷ cards) p ≡ calls_on subs cards p
 dev_more subs line d cards p = let h = card_more subs (dev_at line d) cards p in omega (arith, h)
 
-pub called_some : (subs : List Sub) (cards : List Body) (n : List ℕ) (p : ℕ) → In n (callees cards) → place_in subs n ≡ Some p → 1 ≤ calls_on subs cards p
-called_some subs [] n p i e = absurd i
+pub called_some : (subs : List Sub) (cards : List Body) (n : List ℕ) (p : ℕ) → Contains (callees cards) n → place_in subs n ≡ Some p → 1 ≤ calls_on subs cards p
+called_some subs [] n p i e = absurd (in_none n i)
 called_some subs (dev_at line d ∷ cards) n p i e = let h = called_some subs cards n p i e in let m = dev_more subs line d cards p in omega (arith, h, m)
-called_some subs (call_at line c ∷ cards) n p (inl f) e =
-    let here : place_in subs c.sub ≡ Some p = ap (place_in subs) (sym f) ∙ e in
+called_some subs (call_at line c ∷ cards) n p (zero, lt, f) e =
+    let here : place_in subs c.sub ≡ Some p = ap (place_in subs) f ∙ e in
     let one : cond (is_place p (place_in subs c.sub)) 1 0 ≡ suc zero = ap (λ (o : Option ℕ). cond (is_place p o) 1 0) here ∙ ap (λ b. cond b 1 0) (eq-eqb p p refl) in
     let m = card_more subs (call_at line c) cards p in
     omega (arith, one, m)
-called_some subs (call_at line c ∷ cards) n p (inr i) e = let h = called_some subs cards n p i e in let m = card_more subs (call_at line c) cards p in omega (arith, h, m)
+called_some subs (call_at line c ∷ cards) n p (suc k, lt, f) e = let h = called_some subs cards n p (k, omega (arith, lt), f) e in let m = card_more subs (call_at line c) cards p in omega (arith, h, m)
 
 -- a name that these cards call, and that stands at a place
 abbrev pub Calls : List Sub → List Body → ℕ → Type 0
-Calls subs cards p = (n : List ℕ) × (In n (callees cards)) × (place_in subs n ≡ Some p)
+Calls subs cards p = (n : List ℕ) × (Contains (callees cards) n) × (place_in subs n ≡ Some p)
 
 some_by : (subs : List Sub) (n : List ℕ) (cards : List Body) (p : ℕ) (o : Option ℕ) (b : Bool) → place_in subs n ≡ o → is_place p o ≡ b → (1 ≤ calls_on subs cards p → Calls subs cards p)
-    → 1 ≤ cond b 1 0 + calls_on subs cards p → (m : List ℕ) × (In m (n ∷ callees cards)) × (place_in subs m ≡ Some p)
+    → 1 ≤ cond b 1 0 + calls_on subs cards p → (m : List ℕ) × (Contains (n ∷ callees cards) m) × (place_in subs m ≡ Some p)
 some_by subs n cards p None true e f later h = absurd cc
-some_by subs n cards p (Some q) true e f later h = let g = eqb-true p q f in (n, inl refl, e ∙ ap (λ k. Some k) (sym g))
-some_by subs n cards p o false e f later h = let g = later (omega (arith, h)) in (g.0, inr g.1, g.2)
+some_by subs n cards p (Some q) true e f later h = let g = eqb-true p q f in (n, in_head n (callees cards), e ∙ ap (λ k. Some k) (sym g))
+some_by subs n cards p o false e f later h = let g = later (omega (arith, h)) in (g.0, in_tail n (callees cards) g.0 g.1, g.2)
 
 pub some_called : (subs : List Sub) (cards : List Body) (p : ℕ) → 1 ≤ calls_on subs cards p → Calls subs cards p
 some_called subs [] p h = absurd (omega (arith, h))
@@ -100,13 +100,13 @@ open_less subs (u ∷ ss) (suc m ∷ ranks) (suc i) l p s at low none some = ope
 
 -- one that has none counts
 pub open_some : (subs ss : List Sub) (ranks : List ℕ) (q p : ℕ) (s : Sub) (n : List ℕ) → slice_get ss q ≡ Some s → q < length ranks → get_or ranks q 0 ≡ 0
-    → In n (callees s.cards) → place_in subs n ≡ Some p → 1 ≤ open_calls subs ss ranks p
+    → Contains (callees s.cards) n → place_in subs n ≡ Some p → 1 ≤ open_calls subs ss ranks p
 unfolding open_calls
 open_some subs [] ranks q p s n at low none called place = absurd cc
 open_some subs (u ∷ ss) [] q p s n at low none called place = absurd (omega (arith, low))
 open_some subs (u ∷ ss) (zero ∷ ranks) zero p s n at low none called place =
     let same : s ≡ u = cc in
-    let h = called_some subs u.cards n p (subst (λ (v : Sub). In n (callees v.cards)) same called) place in
+    let h = called_some subs u.cards n p (subst (λ (v : Sub). Contains (callees v.cards) n) same called) place in
     omega (arith, h)
 open_some subs (u ∷ ss) (suc m ∷ ranks) zero p s n at low none called place = absurd (omega (arith, none))
 open_some subs (u ∷ ss) (zero ∷ ranks) (suc q) p s n at low none called place =

@@ -1,10 +1,11 @@
 -- One mark more: what it leaves, and what it adds.
 use Rattle.std.proofs.Common.{◌≡◌, ◌≢◌, ◌+◌, ◌<◌, ℕ, zero, suc, List, [], ◌∷◌, ◌++◌, length, cond, eqb, Bool, true, false, set, get_or, refl, sym, ap, ◌∙◌, arith, inl, inr}
-use Rattle.std.specs.Prelude.{◌⊎◌}
+use Rattle.std.specs.Prelude.{Contains, ◌⊎◌}
+use Rattle.std.proofs.lemmas.List.Elements.{Contains-append_left, Contains-append_right, Contains-append_cases}
 use Rattle.std.proofs.lemmas.Bool.{cases_Bool, eqb-true, eq-eqb}
 use Rattle.std.proofs.lemmas.List.{get_or-set_same, get_or-set_other, length-set, length-append}
 use Rattle.gl_deck.specs.Walks.{Walk, marked}
-use Rattle.gl_deck.proofs.Members.{In, in_left, in_right, from_append}
+use Rattle.gl_deck.proofs.Members.{in_one}
 
 abbrev pub Marked : Walk → ℕ → Type 0
 Marked w i = get_or w.marks i false ≡ true
@@ -30,17 +31,17 @@ left w = unmarked w.marks + length w.pending
 pub record Spreads (old new : Walk) (From : ℕ → Type 0) : Type 0 where
   pub sized : length new.marks ≡ length old.marks
   pub kept : (j : ℕ) → Marked old j → Marked new j
-  pub pending : (j : ℕ) → In j old.pending → In j new.pending
-  pub pended : (j : ℕ) → In j new.pending → In j old.pending ⊎ Marked new j
-  pub fresh : (j : ℕ) → Marked new j → Marked old j ⊎ (From j × In j new.pending)
+  pub pending : (j : ℕ) → Contains old.pending j → Contains new.pending j
+  pub pended : (j : ℕ) → Contains new.pending j → Contains old.pending j ⊎ Marked new j
+  pub fresh : (j : ℕ) → Marked new j → Marked old j ⊎ (From j × Contains new.pending j)
   pub left : left new ≡ left old
 
 newly : Walk → ℕ → Walk
 newly w i = record { marks = set w.marks i true; pending = w.pending ++ i ∷ [] }
 
-fresh_by : (w : Walk) (i j : ℕ) → Marked (newly w i) j → (i ≡ j) ⊎ (j ≢ i) → Marked w j ⊎ ((j ≡ i) × In j (w.pending ++ i ∷ []))
+fresh_by : (w : Walk) (i j : ℕ) → Marked (newly w i) j → (i ≡ j) ⊎ (j ≢ i) → Marked w j ⊎ ((j ≡ i) × Contains (w.pending ++ i ∷ []) j)
 unfolding newly
-fresh_by w i j m (inl e) = inr (sym e, in_right j w.pending (i ∷ []) (inl (sym e)))
+fresh_by w i j m (inl e) = inr (sym e, Contains-append_right w.pending (i ∷ []) j (0, omega arith, e))
 fresh_by w i j m (inr ne) = inl (sym (get_or-set_other w.marks i j true false ne) ∙ m)
 
 or_other : (i j : ℕ) → (i ≡ j) ⊎ (j ≢ i)
@@ -54,19 +55,18 @@ unfolding newly
 kept_by w i j off m (inl e) = absurd (let f : get_or w.marks i false ≡ get_or w.marks j false = ap (λ k. get_or w.marks k false) e in cc)
 kept_by w i j off m (inr ne) = get_or-set_other w.marks i j true false ne ∙ m
 
-pended_by : (w : Walk) (i j : ℕ) → i < length w.marks → In j w.pending ⊎ In j (i ∷ []) → In j w.pending ⊎ Marked (newly w i) j
+pended_by : (w : Walk) (i j : ℕ) → i < length w.marks → Contains w.pending j ⊎ Contains (i ∷ []) j → Contains w.pending j ⊎ Marked (newly w i) j
 unfolding newly
 pended_by w i j h (inl p) = inl p
-pended_by w i j h (inr (inl e)) = inr (ap (λ k. get_or (set w.marks i true) k false) e ∙ get_or-set_same w.marks i true false h)
-pended_by w i j h (inr (inr n)) = absurd n
+pended_by w i j h (inr m) = inr (ap (λ k. get_or (set w.marks i true) k false) (in_one j i m) ∙ get_or-set_same w.marks i true false h)
 
 spread_one : (w : Walk) (i : ℕ) → i < length w.marks → get_or w.marks i false ≡ false → Spreads w (newly w i) (λ j. j ≡ i)
 unfolding newly left
 spread_one w i h off = record {
   sized = length-set w.marks i true;
   kept = λ j m. kept_by w i j off m (or_other i j);
-  pending = λ j p. in_left j w.pending (i ∷ []) p;
-  pended = λ j p. pended_by w i j h (from_append j w.pending (i ∷ []) p);
+  pending = λ j p. Contains-append_left w.pending (i ∷ []) j p;
+  pended = λ j p. pended_by w i j h (Contains-append_cases w.pending (i ∷ []) j p);
   fresh = λ j m. fresh_by w i j m (or_other i j);
   left = let u = unmarked_set w.marks i h off in let l = length-append w.pending (i ∷ []) in omega arith;
 }

@@ -1,10 +1,9 @@
 -- Numbers given to subcircuits that nothing calls any more, from the number of subcircuits down.
 use Rattle.std.proofs.Common.{◌≡◌, ◌+◌, ◌<◌, ◌≤◌, min, ℕ, zero, suc, List, [], ◌∷◌, ◌++◌, length, Option, Some, set, get_or, replicate, refl, sym, ap, subst, ◌∙◌, arith, inl, inr}
-use Rattle.std.specs.Prelude.{◌⊎◌, slice_get}
+use Rattle.std.specs.Prelude.{Contains, ◌⊎◌, slice_get}
 use Rattle.gl_text.specs.Decks.{Sub, callees}
 use Rattle.gl_deck.specs.Places.{place_in}
 use Rattle.gl_deck.specs.CallCounts.{calls_on, calls_from, cards_at, times, uncalled_at}
-use Rattle.gl_deck.proofs.Members.{In}
 use Rattle.gl_deck.proofs.CountLaws.{Once, all_open, once, open_calls, open_less, times_last, zeros, zeros_all, zeros_less}
 
 -- one where a subcircuit has a number
@@ -13,7 +12,7 @@ numbered ranks p = min 1 (get_or ranks p 0)
 
 -- a caller has a greater number than what it calls, where that has one
 abbrev pub Ordered : List Sub → List ℕ → Type 0
-Ordered subs ranks = (q p : ℕ) (s : Sub) (n : List ℕ) → slice_get subs q ≡ Some s → In n (callees s.cards) → place_in subs n ≡ Some p → 0 < get_or ranks p 0 → get_or ranks p 0 < get_or ranks q 0
+Ordered subs ranks = (q p : ℕ) (s : Sub) (n : List ℕ) → slice_get subs q ≡ Some s → Contains (callees s.cards) n → place_in subs n ≡ Some p → 0 < get_or ranks p 0 → get_or ranks p 0 < get_or ranks q 0
 
 -- so many have no number yet; calls are counted for these; where nothing calls, one is ready or has a number
 pub record IsNumbering (subs : List Sub) (calls ready ranks : List ℕ) (next : ℕ) : Type 0 where

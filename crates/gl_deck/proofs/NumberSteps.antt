@@ -1,12 +1,11 @@
 -- One number more.
 use Rattle.std.proofs.Common.{◌≡◌, ◌≢◌, ◌+◌, ◌-◌, ◌<◌, ◌≤◌, ℕ, List, [], ◌∷◌, ◌++◌, length, Some, set, get_or, ap, ◌∙◌, arith, inl, inr}
-use Rattle.std.specs.Prelude.{◌⊎◌, slice_get}
+use Rattle.std.specs.Prelude.{Contains, ◌⊎◌, slice_get}
 use Rattle.std.proofs.lemmas.List.{get_or-set_same, get_or-set_other, length-set}
 use Rattle.std.proofs.lemmas.Option.{slice_get_within}
 use Rattle.gl_text.specs.Decks.{Sub, callees}
 use Rattle.gl_deck.specs.Places.{place_in}
 use Rattle.gl_deck.specs.CallCounts.{calls_on, cards_at, times, uncalled_at}
-use Rattle.gl_deck.proofs.Members.{In}
 use Rattle.gl_deck.proofs.CountLaws.{Once, once, open_some, times_last, zeros_less}
 use Rattle.gl_deck.proofs.NumberLaws.{IsNumbering, IsReady, calls_go, is_ready, more_left, numbered, some_or}
 
@@ -40,7 +39,7 @@ greater_then ranks place next p greater some (inr h) has = let e = h.1 in let g 
 
 -- a caller of what is ready has a number
 caller_numbered : (subs : List Sub) (calls ready ranks : List ℕ) (next place q : ℕ) (s : Sub) (n : List ℕ) → IsNumbering subs calls ready ranks next → IsReady subs calls ranks place
-    → slice_get subs q ≡ Some s → In n (callees s.cards) → place_in subs n ≡ Some place → next < get_or ranks q 0
+    → slice_get subs q ≡ Some s → Contains (callees s.cards) n → place_in subs n ≡ Some place → next < get_or ranks q 0
 caller_numbered subs calls ready ranks next place q s n is at here called place_is = by (some_or (get_or ranks q 0)) where
   by : (get_or ranks q 0 ≡ 0) ⊎ (0 < get_or ranks q 0) → next < get_or ranks q 0
   by (inl e) =
@@ -53,7 +52,7 @@ caller_numbered subs calls ready ranks next place q s n is at here called place_
   by (inr some) = is.greater q some
 
 ordered_then : (subs : List Sub) (calls ready ranks : List ℕ) (next place q p : ℕ) (s : Sub) (n : List ℕ) → IsNumbering subs calls ready ranks next → IsReady subs calls ranks place
-    → slice_get subs q ≡ Some s → In n (callees s.cards) → place_in subs n ≡ Some p → Then ranks place next p → Then ranks place next q
+    → slice_get subs q ≡ Some s → Contains (callees s.cards) n → place_in subs n ≡ Some p → Then ranks place next p → Then ranks place next q
     → 0 < get_or (set ranks place next) p 0 → get_or (set ranks place next) p 0 < get_or (set ranks place next) q 0
 ordered_then subs calls ready ranks next place q p s n is at here called place_is (inl h) (inl g) has =
     let k = caller_numbered subs calls ready ranks next place q s n is at here called (place_is ∙ ap (λ m. Some m) h.0) in

@@ -1,8 +1,10 @@
 -- What a subcircuit leads to: the steps end, hold all that is called, and no more.
 use Rattle.std.proofs.Common.{◌≡◌, ◌+◌, ◌<◌, ◌≤◌, ℕ, zero, suc, List, [], ◌∷◌, ◌++◌, length, map, cond, Bool, true, false, refl, sym, ap, subst, ◌∙◌, arith, inl, inr}
-use Rattle.std.specs.Prelude.{◌⊎◌, filter, flat_map}
+use Rattle.std.specs.Prelude.{Contains, ◌⊎◌, filter, flat_map}
+use Rattle.std.proofs.lemmas.List.Elements.{Contains-append_left, Contains-append_right, Contains-append_cases}
 use Rattle.gl_text.specs.Decks.{Sub, callees, is_in, step, steps}
-use Rattle.gl_deck.proofs.Members.{In, in_left, in_right, in_map, in_flat, in_filter, from_append, from_map, from_flat, from_filter, is_in_from, from_is_in}
+use Rattle.gl_deck.proofs.Members.{is_in_from, from_is_in}
+use Rattle.gl_lists.proofs.Membership.{in_head, in_tail, in_none, in_map, in_flat_map, in_filter, from_map, from_flat_map, from_filter}
 
 -- the names of these and those that they call
 abbrev pub names_on : List Sub → List (List ℕ)
@@ -15,13 +17,13 @@ on found s = is_in s.head.name (names_on found)
 abbrev pub Settled : List Sub → List Sub → Type 0
 Settled subs found = step subs found ≡ found
 
-pub own_on : (found : List Sub) (s : Sub) → In s found → on found s ≡ true
+pub own_on : (found : List Sub) (s : Sub) → Contains found s → on found s ≡ true
 own_on found s h =
-    is_in_from s.head.name (names_on found) (in_left s.head.name (map (λ (t : Sub). t.head.name) found) (flat_map (λ (t : Sub). callees t.cards) found) (in_map (λ (t : Sub). t.head.name) s found h))
+    is_in_from s.head.name (names_on found) (Contains-append_left (map (λ (t : Sub). t.head.name) found) (flat_map (λ (t : Sub). callees t.cards) found) s.head.name (in_map (λ (t : Sub). t.head.name) found s h))
 
-called_on : (found : List Sub) (s u : Sub) → In s found → In u.head.name (callees s.cards) → on found u ≡ true
+called_on : (found : List Sub) (s u : Sub) → Contains found s → Contains (callees s.cards) u.head.name → on found u ≡ true
 called_on found s u h g =
-    is_in_from u.head.name (names_on found) (in_right u.head.name (map (λ (t : Sub). t.head.name) found) (flat_map (λ (t : Sub). callees t.cards) found) (in_flat (λ (t : Sub). callees t.cards) u.head.name s found h g))
+    is_in_from u.head.name (names_on found) (Contains-append_right (map (λ (t : Sub). t.head.name) found) (flat_map (λ (t : Sub). callees t.cards) found) u.head.name (in_flat_map (λ (t : Sub). callees t.cards) found s u.head.name h g))
 
 -- ---- the steps end
 
@@ -41,12 +43,12 @@ grow_by false true s ps qs h (inr lt) = inr (omega arith)
 grow_by false false s ps qs h o = o
 
 -- what passes a weaker test is the same, or more
-pub grow : (p q : Sub → Bool) (ss : List Sub) → ((s : Sub) → In s ss → p s ≡ true → q s ≡ true) → (filter q ss ≡ filter p ss) ⊎ (length (filter p ss) < length (filter q ss))
+pub grow : (p q : Sub → Bool) (ss : List Sub) → ((s : Sub) → Contains ss s → p s ≡ true → q s ≡ true) → (filter q ss ≡ filter p ss) ⊎ (length (filter p ss) < length (filter q ss))
 grow p q [] h = inl refl
-grow p q (s ∷ ss) h = grow_by (p s) (q s) s (filter p ss) (filter q ss) (h s (inl refl)) (grow p q ss (λ u i e. h u (inr i) e))
+grow p q (s ∷ ss) h = grow_by (p s) (q s) s (filter p ss) (filter q ss) (h s (in_head s ss)) (grow p q ss (λ u i e. h u (in_tail s ss u i) e))
 
 step_grows : (subs : List Sub) (p : Sub → Bool) → Settled subs (filter p subs) ⊎ (length (filter p subs) < length (step subs (filter p subs)))
-step_grows subs p = grow p (on (filter p subs)) subs (λ s i e. own_on (filter p subs) s (in_filter p s subs i e))
+step_grows subs p = grow p (on (filter p subs)) subs (λ s i e. own_on (filter p subs) s (in_filter p subs s i e))
 
 settled_steps : (subs : List Sub) (n : ℕ) (found : List Sub) → Settled subs found → steps subs n found ≡ found
 settled_steps subs zero found h = refl
@@ -64,38 +66,38 @@ ends : (subs : List Sub) (n : ℕ) (p : Sub → Bool) → length subs ≤ length
 ends subs zero p h = last_by subs (filter p subs) p (omega arith) (step_grows subs p)
 ends subs (suc n) p h = ends_by subs n (filter p subs) (λ lt. ends subs n (on (filter p subs)) (omega arith)) (step_grows subs p)
 
-pub some_of : (s : Sub) (ss : List Sub) → In s ss → 1 ≤ length ss
-some_of s [] h = absurd h
+pub some_of : (s : Sub) (ss : List Sub) → Contains ss s → 1 ≤ length ss
+some_of s [] h = absurd (in_none s h)
 some_of s (u ∷ ss) h = omega arith
 
 -- as many steps are enough as there are subcircuits
-pub settled : (subs : List Sub) (t : Sub) → In t subs → Settled subs (steps subs (length subs) (t ∷ []))
+pub settled : (subs : List Sub) (t : Sub) → Contains subs t → Settled subs (steps subs (length subs) (t ∷ []))
 settled subs t h = by (length subs) refl where
   by : (n : ℕ) → length subs ≡ n → Settled subs (steps subs n (t ∷ []))
   by zero e = absurd (let s = some_of t subs h in omega arith)
   by (suc n) e =
-      let first = in_filter (on (t ∷ [])) t subs h (own_on (t ∷ []) t (inl refl)) in
+      let first = in_filter (on (t ∷ [])) subs t h (own_on (t ∷ []) t (in_head t [])) in
       let some = some_of t (filter (on (t ∷ [])) subs) first in
       ends subs n (on (t ∷ [])) (omega arith)
 
 -- ---- what they hold
 
-pub keeps : (subs : List Sub) (s : Sub) (n : ℕ) (found : List Sub) → In s subs → In s found → In s (steps subs n found)
+pub keeps : (subs : List Sub) (s : Sub) (n : ℕ) (found : List Sub) → Contains subs s → Contains found s → Contains (steps subs n found) s
 keeps subs s zero found i h = h
-keeps subs s (suc n) found i h = keeps subs s n (step subs found) i (in_filter (on found) s subs i (own_on found s h))
+keeps subs s (suc n) found i h = keeps subs s n (step subs found) i (in_filter (on found) subs s i (own_on found s h))
 
 -- what is called by one that is found is found
-pub called_found : (subs found : List Sub) (s u : Sub) → Settled subs found → In s found → In u subs → In u.head.name (callees s.cards) → In u found
-called_found subs found s u settles h i g = subst (λ (f : List Sub). In u f) settles (in_filter (on found) u subs i (called_on found s u h g))
+pub called_found : (subs found : List Sub) (s u : Sub) → Settled subs found → Contains found s → Contains subs u → Contains (callees s.cards) u.head.name → Contains found u
+called_found subs found s u settles h i g = subst (λ (f : List Sub). Contains f u) settles (in_filter (on found) subs u i (called_on found s u h g))
 
-step_by : (M : Sub → Type 0) (found : List Sub) (s : Sub) → ((u : Sub) → In u found → M u) → ((u : Sub) → M u → s.head.name ≡ u.head.name → M s) → ((u : Sub) → M u → In s.head.name (callees u.cards) → M s) → In s.head.name (map (λ (t : Sub). t.head.name) found) ⊎ In s.head.name (flat_map (λ (t : Sub). callees t.cards) found) → M s
-step_by M found s all same calls (inl h) = let g = from_map (λ (t : Sub). t.head.name) s.head.name found h in same g.0 (all g.0 g.1) g.2
-step_by M found s all same calls (inr h) = let g = from_flat (λ (t : Sub). callees t.cards) s.head.name found h in calls g.0 (all g.0 g.1) g.2
+step_by : (M : Sub → Type 0) (found : List Sub) (s : Sub) → ((u : Sub) → Contains found u → M u) → ((u : Sub) → M u → s.head.name ≡ u.head.name → M s) → ((u : Sub) → M u → Contains (callees u.cards) s.head.name → M s) → Contains (map (λ (t : Sub). t.head.name) found) s.head.name ⊎ Contains (flat_map (λ (t : Sub). callees t.cards) found) s.head.name → M s
+step_by M found s all same calls (inl h) = let g = from_map (λ (t : Sub). t.head.name) found s.head.name h in same g.0 (all g.0 g.1) (sym g.2)
+step_by M found s all same calls (inr h) = let g = from_flat_map (λ (t : Sub). callees t.cards) found s.head.name h in calls g.0 (all g.0 g.1) g.2
 
 -- a property that passes to what has the same name, and to what is called, holds of all that is found
-pub all_found : (subs : List Sub) (M : Sub → Type 0) (n : ℕ) (found : List Sub) → ((u s : Sub) → M u → In s subs → s.head.name ≡ u.head.name → M s) → ((u s : Sub) → M u → In s subs → In s.head.name (callees u.cards) → M s) → ((u : Sub) → In u found → M u) → (u : Sub) → In u (steps subs n found) → M u
+pub all_found : (subs : List Sub) (M : Sub → Type 0) (n : ℕ) (found : List Sub) → ((u s : Sub) → M u → Contains subs s → s.head.name ≡ u.head.name → M s) → ((u s : Sub) → M u → Contains subs s → Contains (callees u.cards) s.head.name → M s) → ((u : Sub) → Contains found u → M u) → (u : Sub) → Contains (steps subs n found) u → M u
 all_found subs M zero found same calls all u h = all u h
 all_found subs M (suc n) found same calls all u h = all_found subs M n (step subs found) same calls (λ s i.
-    let g = from_filter (on found) s subs i in
+    let g = from_filter (on found) subs s i in
     step_by M found s all (λ v m e. same v s m g.0 e) (λ v m e. calls v s m g.0 e)
-    (from_append s.head.name (map (λ (t : Sub). t.head.name) found) (flat_map (λ (t : Sub). callees t.cards) found) (from_is_in s.head.name (names_on found) g.1))) u h
+    (Contains-append_cases (map (λ (t : Sub). t.head.name) found) (flat_map (λ (t : Sub). callees t.cards) found) s.head.name (from_is_in s.head.name (names_on found) g.1))) u h

@@ -1,6 +1,6 @@
 -- A deck that is read line by line: what stands of it behind some of its cards. This project's own; the law
 -- `lines_make_the_deck` says that it leads to the deck of the definition.
-use Rattle.std.specs.Prelude.{ℕ, ◌&&◌, not, filter, Bool, List, [], ◌∷◌, ◌++◌, length, map, Option, Some, None, nat_lt, option_map, is_some, Result, Ok, Err, codes, if◌then◌else◌}
+use Rattle.std.specs.Prelude.{ℕ, ◌&&◌, not, filter, Bool, List, [], ◌∷◌, ◌++◌, length, Option, Some, None, nat_lt, option_map, is_some, Result, Ok, Err, codes, if◌then◌else◌}
 use Rattle.std.specs.Map.{lookup, values_of}
 use Rattle.indexmap.specs.IndexMap.{insert_entry}
 use Rattle.indexmap.specs.IndexSet.{insert_all}

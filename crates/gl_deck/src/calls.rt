@@ -31,7 +31,7 @@ fn leads_to(
 }
 
 /// Why the call of an X card is refused.
-fn site_fault(
+fn fault_at(
     alloc: Global,
     subs: &Subs,
     ranks: &[usize],
@@ -69,7 +69,7 @@ fn first_fault(
 {
     let mut rest = sites;
     while let [site, behind @ ..] = rest {
-        if let Some(fault) = site_fault(alloc, subs, ranks, site)? {
+        if let Some(fault) = fault_at(alloc, subs, ranks, site)? {
             return Ok(Some(fault));
         }
         rest = behind;

@@ -130,7 +130,7 @@ impl Draft {
     }
 
     /// The line and the name of the open subcircuit; line 0 at the top.
-    fn scope(&self, alloc: Global) -> Result<(u32, Name), Memory>
+    fn open_scope(&self, alloc: Global) -> Result<(u32, Name), Memory>
         ensures scope { IfOk result
             (λ s. (record { line = s.0; name = s.1 }) ≡ scope_of self.now.current) }
     {
@@ -145,7 +145,7 @@ impl Draft {
         requires few { length card.now.nodes < 2 ^ 32 }
         ensures site { IfOk result (λ s. s ≡ site_of self.now.current line card.now) }
     {
-        let (scope_line, scope_name) = self.scope(alloc)?;
+        let (scope_line, scope_name) = self.open_scope(alloc)?;
         Ok(Site {
             line,
             scope_line,

@@ -4,7 +4,7 @@ ghost use Rattle.gl_deck.specs.Refusals.{Gives, IsFaultIn, MustRefuse, Refuses};
 
 use crate::calls::first_call_fault;
 use crate::draft::Draft;
-use crate::globals::without_zero;
+use crate::globals::drop_zero;
 use crate::{Deck, DeckFault};
 use std::alloc::{AllocError, Global};
 
@@ -53,7 +53,7 @@ impl Draft {
     fn into_deck(self, alloc: Global, title: Vec<u8>) -> Result<Deck, AllocError>
         ensures deck { IfOk result (λ deck. deck ≡ deck_of title.items self) }
     {
-        let globals = without_zero(alloc, self.globals)?;
+        let globals = drop_zero(alloc, self.globals)?;
         Ok(Deck {
             title,
             globals,

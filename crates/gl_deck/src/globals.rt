@@ -47,7 +47,7 @@ pub fn add_names(known: &mut IndexSet<Name>, names: Vec<Name>) -> Result<(), Mem
 }
 
 /// The names but `0`, in order.
-pub fn without_zero(alloc: Global, names: IndexSet<Name>) -> Result<Vec<Name>, AllocError>
+pub fn drop_zero(alloc: Global, names: IndexSet<Name>) -> Result<Vec<Name>, AllocError>
     ensures names { IfOk result
         (λ kept. kept.items ≡ filter (λ n. not (same_text n (codes "0"))) names.keys) }
 {

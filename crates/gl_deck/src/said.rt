@@ -2,14 +2,14 @@
 ghost use Rattle.std.specs.Prelude.{◌≡◌};
 ghost use Rattle.gl_deck.specs.Refusals.{fault_of};
 ghost use Rattle.gl_deck.specs.Texts.{fault_text};
-ghost use Rattle.gl_said.specs.Texts.{parts_text, told_text};
+ghost use Rattle.gl_said.specs.Texts.{parts_text, text_if_any};
 
 use crate::DeckFault;
 use gl_said::{Parts, anew, counts, nothing, one, two};
 
 /// The same, of texts and numbers alone.
 fn fixed_parts(fault: &DeckFault) -> Parts<'static>
-    ensures text { parts_text result ≡ told_text fault_text (fault_of fault.now) }
+    ensures text { parts_text result ≡ text_if_any fault_text (fault_of fault.now) }
 {
     match fault {
         DeckFault::LoosePlus { line } => one("1 LoosePlus line=", *line),
@@ -45,7 +45,7 @@ fn fixed_parts(fault: &DeckFault) -> Parts<'static>
 
 /// What is said of a refusal of reading; nothing of want of memory.
 pub fn deck_parts<'a>(fault: &DeckFault) -> Parts<'a>
-    ensures text { parts_text result ≡ told_text fault_text (fault_of fault.now) }
+    ensures text { parts_text result ≡ text_if_any fault_text (fault_of fault.now) }
 {
     anew(fixed_parts(fault))
 }

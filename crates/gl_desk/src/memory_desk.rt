@@ -113,7 +113,7 @@ impl MemoryDesk {
     pub fn text(&self, slot: Slot) -> Option<&[u8]>
         ensures { option_copied result ≡ text_of (view_of self.now slot) }
     {
-        if slot.is_input() {
+        if slot.reads() {
             return None;
         }
         self.seats[slot.place()].bytes()
@@ -210,7 +210,7 @@ fn content_of<'a>(files: &'a BTreeMap<String, Vec<u8>>, slot: Slot, name: &str) 
     ensures { option_copied result ≡ begins_with slot
         (option_map (λ bytes. bytes.items) (get_by_text files.now name.now)) }
 {
-    if slot.is_input() {
+    if slot.reads() {
         files.get(name).map(|bytes| bytes.as_slice())
     } else {
         Some(&[])

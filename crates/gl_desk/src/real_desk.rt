@@ -49,7 +49,7 @@ impl<R: Files<File = File> + Print> Desk for RealDesk<'_, R> {
     ghost wants = { λ desk slot. None };
 
     fn open(&mut self, slot: Slot, name: &str) -> Result<(), Failed> {
-        let opened = if slot.is_input() {
+        let opened = if slot.reads() {
             fs::open(self.rt, name)
         } else {
             fs::create(self.rt, name)

@@ -22,12 +22,12 @@ pub enum Slot {
 
 impl Slot {
     ghost use Rattle.std.specs.Prelude.{◌≡◌, ◌<◌};
-    ghost use Rattle.gl_desk.specs.Desk.{is_input as input_of};
+    ghost use Rattle.gl_desk.specs.Desk.{is_input};
     ghost use Rattle.gl_desk.specs.Places.{place_of};
 
     /// Whether the slot is read.
-    pub(crate) fn is_input(self) -> bool
-        ensures { result ≡ input_of self }
+    pub(crate) fn reads(self) -> bool
+        ensures { result ≡ is_input self }
     {
         matches!(self, Slot::Deck | Slot::Library | Slot::Map)
     }

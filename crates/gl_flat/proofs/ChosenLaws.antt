@@ -1,16 +1,13 @@
 -- What is flattened: the cards outside subcircuits, or a subcircuit.
 use Rattle.std.proofs.Common.{◌≡◌, ℕ, List, [], ◌∷◌, map, Option, Some, None, Ok, Err, refl, sym, ap, ◌∙◌, subst}
-use Rattle.std.specs.Map.{keys_of, values_of, lookup}
 use Rattle.gl_fault.specs.Refusals.{or_else}
 use Rattle.gl_fault.proofs.FirstLaws.{or_else_ok}
-use Rattle.gl_text.specs.LogicalLines.{Fault, same_text, no_top}
+use Rattle.gl_text.specs.LogicalLines.{Fault, no_top}
 use Rattle.gl_text.specs.Cards.{Head}
 use Rattle.gl_text.specs.Decks.{Body, Deck, Sub, find_sub}
 use Rattle.gl_text.specs.Flattening.{chosen}
 use Rattle.gl_printed.specs.ReadDecks.{AllDiffer, IsReadDeck, body_name}
 use Rattle.gl_printed.proofs.FlatDevices.{found_sub}
-use Rattle.gl_deck.specs.Bodies.{names_of}
-use Rattle.gl_deck.proofs.CallLaws.{find_is}
 use Rattle.gl_flat.specs.Steps.{beside_fault}
 
 -- what is found is what the deck has

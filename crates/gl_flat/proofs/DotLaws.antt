@@ -1,11 +1,11 @@
 -- Flat names behind X cards hold a dot; a net without one has its flat name alone.
-use Rattle.std.proofs.Common.{◌≡◌, ℕ, List, [], ◌∷◌, ◌++◌, Bool, true, false, cond, not, Option, Some, None, refl, sym, ap, ◌∙◌, filter}
+use Rattle.std.proofs.Common.{◌≡◌, ℕ, List, [], ◌∷◌, ◌++◌, Bool, true, false, cond, not, refl, sym, ap, ◌∙◌, filter}
 use Rattle.std.specs.Prelude.{◌||◌, ◌&&◌, ◌==◌, codes}
 use Rattle.std.specs.List.{list_any}
 use Rattle.std.proofs.lemmas.List.Folds.{list_any-append}
 use Rattle.gl_lists.proofs.Bools.{and_not_itself}
 use Rattle.gl_fault.proofs.FirstLaws.{only}
-use Rattle.gl_text.specs.LogicalLines.{Fault, name_clash, same_text}
+use Rattle.gl_text.specs.LogicalLines.{name_clash, same_text}
 use Rattle.gl_fault.specs.Refusals.{first_some, when}
 use Rattle.gl_text.specs.Flattening.{Net, Bearer, device, net, net_name, path_text, same_path, clash, first_clash}
 use Rattle.gl_text.proofs.Names.{exact}

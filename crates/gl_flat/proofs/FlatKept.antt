@@ -1,5 +1,5 @@
 -- A flat deck is kept: its nets are those of its cards, and each number leads back to the name.
-use Rattle.std.proofs.Common.{◌≡◌, ℕ, List, [], ◌∷◌, ◌++◌, length, map, Option, Some, true, refl, sym, ap, ◌∙◌, subst, flat_map}
+use Rattle.std.proofs.Common.{◌≡◌, ℕ, List, [], ◌∷◌, ◌++◌, map, Option, Some, true, refl, sym, ap, ◌∙◌, subst, flat_map}
 use Rattle.std.specs.Prelude.{Contains, position}
 use Rattle.std.specs.List.{position_or_len}
 use Rattle.std.proofs.lemmas.List.{map-append}
@@ -7,7 +7,7 @@ use Rattle.gl_match.proofs.Lists.{in_head, in_tail, in_map}
 use Rattle.gl_text.specs.LogicalLines.{same_text}
 use Rattle.gl_text.specs.Cards.{Device as Card, dev}
 use Rattle.gl_text.specs.Decks.{is_in, line_of, once}
-use Rattle.gl_text.specs.Flattening.{Net, FlatDevice, Flat, flat_card, device_name, net_name}
+use Rattle.gl_text.specs.Flattening.{Net, FlatDevice, flat_card, device_name, net_name}
 use Rattle.gl_flat.specs.PlainFlats.{plain_device}
 use Rattle.gl_flat.proofs.PlainLaws.{cards_stay}
 use Rattle.gl_base.specs.BaseCircuit.{nets_of, net_number}
@@ -15,7 +15,7 @@ use Rattle.gl_base.specs.Reports.{name_at}
 use Rattle.gl_base.proofs.OnceLaws.{once_kept, place_back, position_there, there}
 use Rattle.gl_base.proofs.TextLaws.{exact, itself, once_is, each_once, names_stay, node_is_net}
 use Rattle.gl_text.specs.Flattening.{flat_line}
-use Rattle.gl_flat.specs.Kept.{KeptDevice, kept_device, kept_card, kept_cards, kept_devices, kept, AreKept}
+use Rattle.gl_flat.specs.Kept.{KeptDevice, kept_device, kept_cards, kept_devices, kept, AreKept}
 use Rattle.gl_flat.specs.Kept.{device_line}
 
 -- ---- names of nets

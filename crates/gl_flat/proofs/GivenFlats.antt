@@ -1,5 +1,5 @@
 -- What is known where a flat deck is given: it has few devices, and no names clash.
-use Rattle.std.proofs.Common.{◌≡◌, ◌≤◌, ◌+◌, ℕ, List, [], ◌∷◌, ◌++◌, length, map, ltb, false, not, Option, None, Ok, refl, sym, ap, ◌∙◌, subst, flat_map, codes, sum_by, ltb-false}
+use Rattle.std.proofs.Common.{◌≡◌, ◌≤◌, ◌+◌, ℕ, List, [], ◌∷◌, ◌++◌, length, map, ltb, false, not, Option, None, Ok, sym, ap, ◌∙◌, subst, flat_map, codes, sum_by, ltb-false}
 use Rattle.gl_lists.proofs.Zips.{map_map}
 use Rattle.gl_text.specs.LogicalLines.{NAME, too_deep, too_many_cards, too_many_devices, long_flat_name, long_text}
 use Rattle.gl_fault.specs.Refusals.{first_some, when, or_else, ◌>>=◌}

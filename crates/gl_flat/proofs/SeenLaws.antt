@@ -1,11 +1,11 @@
 -- Names that are seen one after the other.
-use Rattle.std.proofs.Common.{◌≡◌, ◌<◌, ◌+◌, ℕ, List, [], ◌∷◌, ◌++◌, length, take, drop, get_or, Option, Some, None, Result, Ok, Err, refl, sym, ap, ◌∙◌, subst, map, flat_map, append-nil}
+use Rattle.std.proofs.Common.{◌≡◌, ◌<◌, ◌+◌, ℕ, List, [], ◌∷◌, ◌++◌, length, take, drop, get_or, Option, Result, Ok, Err, refl, sym, ap, ◌∙◌, subst, map, flat_map, append-nil}
 use Rattle.std.proofs.lemmas.Grind.{flat_map-append}
 use Rattle.std.proofs.lemmas.List.{take_more, take-append-drop}
 use Rattle.std.proofs.lemmas.List.Concat.{flat_map_single}
 use Rattle.gl_fault.proofs.AnswerLaws.{through}
 use Rattle.gl_text.specs.LogicalLines.{Fault}
-use Rattle.gl_fault.specs.Refusals.{◌>>=◌, IsFound, IsRefusal}
+use Rattle.gl_fault.specs.Refusals.{◌>>=◌, IsRefusal}
 use Rattle.gl_text.specs.Flattening.{Net, Bearer, net}
 use Rattle.gl_flat.specs.SeenNames.{Seen, seen_with, seen_all}
 

@@ -3,10 +3,9 @@ use Rattle.gl_fault.specs.Refusals.{first_some, or_else, ◌>>=◌}
 use Rattle.std.specs.Prelude.{◌≡◌, ℕ, List, [], ◌∷◌, flat_map, Option, None, Some, Result, Ok}
 use Rattle.gl_text.specs.LogicalLines.{Fault, top_devices}
 use Rattle.gl_text.specs.Cards.{Head}
-use Rattle.gl_text.specs.Decks.{Body, Sub, Deck}
+use Rattle.gl_text.specs.Decks.{Body, Deck}
 use Rattle.gl_text.specs.Flattening.{DEPTH, FlatDevice, Flat, flat_devices, line_of_body, top_place, top_ports, bearers, chosen, excess_in, text_fault, long_in, clash_in}
 use Rattle.std.specs.Option.{option_copied}
-use Rattle.indexmap.specs.IndexMap.{values}
 use Rattle.gl_deck.specs.declared.body.Body as body
 use Rattle.gl_deck.specs.Bodies.{bodies_value}
 use Rattle.gl_flat.specs.declared.chosen.Chosen.{Chosen}

@@ -1,13 +1,11 @@
 -- X cards on the way to a card, and the place to which they lead.
 use Rattle.std.specs.Prelude.{◌≡◌, ℕ, List, [], ◌∷◌, ◌++◌, map, fold, zip, Option, Some, None, position, slice_get, if◌then◌else◌}
 use Rattle.std.specs.List.{AllByRecursion}
-use Rattle.indexmap.specs.IndexMap.{keys, values}
 use Rattle.gl_text.specs.LogicalLines.{same_text}
 use Rattle.gl_text.specs.Cards.{Device}
 use Rattle.gl_text.specs.Decks as decks
 use Rattle.gl_text.specs.Flattening.{FlatDevice, Net, Place, flat_devices, is_rail, net_of, top_net, top_place}
 use Rattle.gl_printed.specs.ReadDecks.{AllDiffer, body_name}
-use Rattle.gl_deck.specs.Bodies.{names_of}
 use Rattle.gl_flat.specs.declared.step.Step.{Step}
 use Rattle.gl_flat.specs.declared.scene.Scene.{Scene}
 

@@ -20,7 +20,7 @@ pub fn refuse_clash<'a>(
     ensures ok { OnOk result (clash_with_top scene.now devices.now ≡ None) }
     ensures refused { IfErr result (IsFaultIn (clash_with_top scene.now devices.now)) }
 {
-    let mut seen = Seen::behind(alloc, scene);
+    let mut seen = Seen::of_scene(alloc, scene);
     seen.add_all(alloc, devices)?;
     Ok(())
 }

@@ -2,7 +2,7 @@ ghost use Rattle.std.specs.Prelude.{◌≡◌};
 ghost use Rattle.gl_text.specs.Flattening as flat;
 ghost use Rattle.gl_flat.specs.SeenNames as seen;
 
-use crate::dot::has_dot;
+use crate::dot::holds_dot;
 use crate::net::Net;
 use crate::{DevCard, Name};
 use std::marker::Model;
@@ -30,9 +30,9 @@ impl<'a> Model for FlatDevice<'a> {
 
 impl<'a> FlatDevice<'a> {
     /// Its flat name holds a dot, as that of every device behind X cards does.
-    pub fn has_dot(&self) -> bool
+    pub fn holds_dot(&self) -> bool
         ensures dot { result ≡ seen.has_dot (flat.device_name self.now) }
     {
-        !self.path.is_empty() || has_dot(self.card.name().as_bytes())
+        !self.path.is_empty() || holds_dot(self.card.name().as_bytes())
     }
 }

@@ -125,7 +125,7 @@ fn kept_parts<'a>(
         ≡ kept_of (map flat_card devices.now)) }
     ensures refused { IfErr result (IsFaultIn (clash_with_top scene.now devices.now)) }
 {
-    let mut seen = Seen::behind(alloc, scene);
+    let mut seen = Seen::of_scene(alloc, scene);
     let numbered = number_devices(alloc, &mut seen, devices)?;
     Ok((seen.into_names(alloc)?, numbered))
 }

@@ -3,7 +3,7 @@ ghost use Rattle.gl_text.specs.Flattening as flat;
 ghost use Rattle.gl_flat.specs.SeenNames as seen;
 
 use crate::Name;
-use crate::dot::has_dot;
+use crate::dot::holds_dot;
 use std::alloc::Global;
 use std::marker::Model;
 
@@ -44,9 +44,9 @@ impl<'a> Net<'a> {
     }
 
     /// Its flat name holds a dot, as that of every net behind X cards does.
-    pub fn has_dot(&self) -> bool
+    pub fn holds_dot(&self) -> bool
         ensures dot { result ≡ seen.has_dot (flat.net_name self.now) }
     {
-        self.has_path() || has_dot(self.name.as_bytes())
+        self.has_path() || holds_dot(self.name.as_bytes())
     }
 }

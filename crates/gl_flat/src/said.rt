@@ -2,7 +2,7 @@
 ghost use Rattle.std.specs.Prelude.{◌≡◌};
 ghost use Rattle.gl_flat.specs.Refusals.{fault_of, too_many};
 ghost use Rattle.gl_deck.specs.Texts.{fault_text};
-ghost use Rattle.gl_said.specs.Texts.{parts_text, told_text};
+ghost use Rattle.gl_said.specs.Texts.{parts_text, text_if_any};
 
 use crate::fault::{FlatFault, What};
 use gl_said::{Parts, name as behind, nothing, one};
@@ -19,7 +19,7 @@ fn too_many_parts<'a>(what: What, number: u32) -> Parts<'a>
 
 /// What is said of a refusal of flattening; nothing of want of memory.
 pub fn flat_parts<'a>(fault: &'a FlatFault) -> Parts<'a>
-    ensures text { parts_text result ≡ told_text fault_text (fault_of fault.now) }
+    ensures text { parts_text result ≡ text_if_any fault_text (fault_of fault.now) }
 {
     match fault {
         FlatFault::NameClash { name } => behind("20 NameClash name=", name.as_bytes()),

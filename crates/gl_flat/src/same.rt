@@ -19,7 +19,7 @@ fn same_path(xs: &[&Name], ys: &[&Name]) -> bool
 }
 
 /// Two nets are the same.
-pub fn same_net(m: &Net<'_>, n: &Net<'_>) -> bool
+pub fn is_same_net(m: &Net<'_>, n: &Net<'_>) -> bool
     ensures same { result ≡ seen.same_net m.now n.now }
 {
     same_path(&m.path, &n.path) && m.name.as_bytes() == n.name.as_bytes()

@@ -7,11 +7,11 @@ ghost use Rattle.gl_flat.specs.TopNames.{top_names};
 
 use crate::copy::name_copy;
 use crate::device::FlatDevice;
-use crate::dot::has_dot;
+use crate::dot::holds_dot;
 use crate::names::Names;
 use crate::naming::{device_text, flat_name};
 use crate::net::Net;
-use crate::same::same_net;
+use crate::same::is_same_net;
 use crate::scene::{Scene, is_top};
 use crate::{FlatFault, Name};
 use indexmap::{IndexMap, IndexSet};
@@ -65,7 +65,7 @@ fn set_of(alloc: Global, names: Vec<Name>) -> Result<IndexSet<Name>, AllocError>
 
 impl<'a> Seen<'a> {
     /// Nets of the top alone were seen.
-    pub fn behind(alloc: Global, scene: &Scene<'a>) -> Seen<'a>
+    pub fn of_scene(alloc: Global, scene: &Scene<'a>) -> Seen<'a>
         ensures nothing { result ≡ nothing_seen (top_names scene.now) }
     {
         Seen {
@@ -93,7 +93,7 @@ impl<'a> Seen<'a> {
         ensures ok { OnOk result (seen_one self.old (device name.now) ≡ Ok self.new) }
         ensures refused { IfErr result (IsFaultOf (seen_one self.old (device name.now))) }
     {
-        if has_dot(name.as_bytes()) {
+        if holds_dot(name.as_bytes()) {
             return self.add_dotted(alloc, name);
         }
         Ok(())
@@ -116,7 +116,7 @@ impl<'a> Seen<'a> {
     {
         let name = flat_name(alloc, added)?;
         if let Some((number, _, known)) = self.nets.get_full(name.as_name()) {
-            if same_net(added, known) {
+            if is_same_net(added, known) {
                 return Ok(number);
             }
             return Err(FlatFault::NameClash {
@@ -149,7 +149,7 @@ impl<'a> Seen<'a> {
         ensures ok { OnOk result (seen_risks self.old (net added.now ∷ []) ≡ Ok self.new) }
         ensures refused { IfErr result (IsFaultOf (seen_risks self.old (net added.now ∷ []))) }
     {
-        if added.has_dot() {
+        if added.holds_dot() {
             self.add_net(alloc, added)?;
         }
         Ok(())
@@ -193,7 +193,7 @@ impl<'a> Seen<'a> {
         ensures ok { OnOk result (seen_one self.old (own added.now) ≡ Ok self.new) }
         ensures refused { IfErr result (IsFaultOf (seen_one self.old (own added.now))) }
     {
-        if added.has_dot() {
+        if added.holds_dot() {
             return self.add_dotted(alloc, &device_text(alloc, added)?);
         }
         Ok(())

@@ -1,20 +1,17 @@
 -- The cells of a run, by their numbers.
-use Rattle.std.proofs.Common.{◌≡◌, ◌==◌, ◌+◌, ◌<◌, ℕ, zero, suc, List, [], ◌∷◌, ◌++◌, length, map, filter, cond, eqb, get_or, Bool, true, false, Option, Some, None, refl, sym, ap, ◌∙◌, subst, arith, inl, inr}
-use Rattle.std.specs.Prelude.{filter_map, zip, slice_index_or}
+use Rattle.std.proofs.Common.{◌≡◌, ◌==◌, ◌+◌, ◌<◌, ℕ, suc, List, [], ◌∷◌, length, map, filter, eqb, Bool, true, false, Option, Some, None, refl, ap, ◌∙◌, arith}
+use Rattle.std.specs.Prelude.{filter_map, zip}
 use Rattle.std.specs.List.{AllZip, enumerate_from}
-use Rattle.std.proofs.lemmas.Bool.{cases_Bool}
 use Rattle.gl_text.specs.Decks.{Sub}
-use Rattle.gl_match.specs.Graph.{Pattern}
 use Rattle.gl_base.specs.Libraries as libraries
 use Rattle.gl_base.specs.Libraries.{greatest}
-use Rattle.gl_base.specs.Rounds.{is_searched, searched}
+use Rattle.gl_base.specs.Rounds.{searched}
 use Rattle.gl_lifting.specs.Runs.{Run, pattern_in}
 use Rattle.gl_lifting.specs.Histories.{levels_of}
 use Rattle.gl_match.specs.Cells.{Cell}
-use Rattle.gl_history.specs.Plain.{RoundCell}
-use Rattle.gl_history.specs.Searching.{pattern_at, patterns_at, number_at, numbers_at, rounds_of}
+use Rattle.gl_history.specs.Searching.{patterns_at, number_at, numbers_at, rounds_of}
 use Rattle.gl_history.specs.Replacing.{kind_at}
-use Rattle.gl_lifting.specs.SearchedCells.{cell_in, pattern_unless}
+use Rattle.gl_lifting.specs.SearchedCells.{cell_in}
 use Rattle.gl_history.proofs.ChosenLaws.{HasKind}
 
 -- those of a level that are searched

@@ -1,5 +1,5 @@
 -- The chosen instances of a round, as the definitions of histories tell them.
-use Rattle.std.proofs.Common.{◌≡◌, ◌+◌, ◌<◌, ℕ, zero, suc, List, [], ◌∷◌, ◌++◌, length, map, cond, Bool, true, false, Option, Some, None, refl, sym, ap, ◌∙◌, subst, arith, inl, inr}
+use Rattle.std.proofs.Common.{◌≡◌, ◌+◌, ℕ, suc, List, [], ◌∷◌, ◌++◌, length, map, cond, Bool, Option, Some, None, refl, sym, ap, subst, inl, inr}
 use Rattle.std.specs.Prelude.{◌||◌, flat_map, find, filter_map, zip}
 use Rattle.std.specs.List.{AllZip, list_any, enumerate_from}
 use Rattle.std.proofs.lemmas.Bool.{cases_Bool}

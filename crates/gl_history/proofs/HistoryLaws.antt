@@ -1,5 +1,5 @@
 -- What is reached round by round shows the history of a run.
-use Rattle.std.proofs.Common.{◌≡◌, ◌+◌, ◌<◌, ℕ, zero, suc, List, [], ◌∷◌, ◌++◌, length, map, refl, sym, ap, ◌∙◌, subst, arith}
+use Rattle.std.proofs.Common.{◌≡◌, ◌+◌, ℕ, zero, suc, List, [], ◌∷◌, ◌++◌, length, map, refl, sym, ap, ◌∙◌, subst, arith}
 use Rattle.std.specs.Prelude.{zip}
 use Rattle.std.specs.List.{AllZip, enumerate_from, range_with_len}
 use Rattle.std.proofs.lemmas.List.{length-map, map-append, length-append}
@@ -7,10 +7,9 @@ use Rattle.gl_text.specs.Decks.{Sub}
 use Rattle.gl_match.specs.declared.role.Pick.{Pick}
 use Rattle.gl_match.specs.Graph.{Device, Circuit, Pattern}
 use Rattle.gl_match.specs.Listing.{Instance}
-use Rattle.gl_base.specs.Libraries as libraries
 use Rattle.gl_base.specs.Rounds.{IsRound}
 use Rattle.gl_lifting.specs.Runs.{Run, searched_at, first_circuit, pattern_in}
-use Rattle.gl_lifting.specs.Replacement.{Slot, Origin, base, Composite, replaced}
+use Rattle.gl_lifting.specs.Replacement.{Slot, base, Composite, replaced}
 use Rattle.gl_lifting.specs.Histories as histories
 use Rattle.gl_lifting.specs.Histories.{Stage, Follow, IsRoundAt, circuit_at, first_stage, composites_of, stage_behind}
 use Rattle.gl_history.specs.declared.origin.Origin as declared
@@ -19,8 +18,8 @@ use Rattle.gl_match.specs.Cells.{Cell}
 use Rattle.gl_history.specs.Plain.{RoundCell, Round, Lifted, origin_value}
 use Rattle.gl_history.specs.Searching.{patterns_at, numbers_at, rounds_of}
 use Rattle.gl_history.specs.Replacing.{Chosen, chosen_of, slots_of, slots_after, kind_at}
-use Rattle.gl_history.specs.Reached.{start_of, slots_behind, behind, AreFound, IsStep, Reached}
-use Rattle.gl_lifting.specs.SearchedCells.{AreCells, cell_in}
+use Rattle.gl_history.specs.Reached.{start_of, slots_behind, behind, AreFound, Reached}
+use Rattle.gl_lifting.specs.SearchedCells.{AreCells}
 use Rattle.gl_history.specs.Shown.{Shows, IsLifted}
 use Rattle.gl_history.proofs.SlotLaws.{together}
 use Rattle.gl_history.proofs.ChosenLaws.{IsSame, HasKind, slots_same, chosen_same, zip_long}

@@ -1,10 +1,9 @@
 -- What is asked of what was found, before it is put into the circuit.
-use Rattle.std.proofs.Common.{◌≡◌, ◌+◌, ◌<◌, ◌≤◌, ℕ, zero, suc, List, [], ◌∷◌, ◌++◌, length, map, get_or, Option, Some, None, refl, sym, ap, ◌∙◌, subst, arith}
+use Rattle.std.proofs.Common.{◌≡◌, ◌+◌, ◌<◌, ◌≤◌, ℕ, zero, suc, List, [], ◌∷◌, length, map, get_or, Option, Some, None, refl, sym, ap, ◌∙◌, subst, arith}
 use Rattle.std.specs.Prelude.{All, filter_map}
-use Rattle.std.specs.List.{AllZip, enumerate_from}
+use Rattle.std.specs.List.{enumerate_from}
 use Rattle.std.proofs.lemmas.List.{length-map}
 use Rattle.std.proofs.lemmas.List.Elements.{All-nil, All-cons, All-head, All-tail}
-use Rattle.gl_match.specs.declared.role.Pick.{Pick}
 use Rattle.gl_match.specs.Graph.{Circuit, Pattern}
 use Rattle.gl_match.specs.Listing.{Instance}
 use Rattle.gl_match.specs.Choice.{sets_of, sets_in}
@@ -13,7 +12,7 @@ use Rattle.gl_history.specs.declared.composite.Composite.{Composite}
 use Rattle.gl_history.specs.declared.fate.Fate.{Fate}
 use Rattle.gl_match.specs.Cells.{Cell}
 use Rattle.gl_history.specs.Plain.{RoundCell}
-use Rattle.gl_history.specs.Searching.{pattern_at, number_at, numbers_at}
+use Rattle.gl_history.specs.Searching.{pattern_at, number_at}
 use Rattle.gl_history.specs.Replacing.{Chosen}
 use Rattle.gl_history.specs.Marks.{IsMarked, IsWithin, fate_at}
 use Rattle.gl_history.specs.Reached.{AreFound}

@@ -1,17 +1,17 @@
 -- What stays from round to round.
-use Rattle.std.proofs.Common.{◌≡◌, ◌+◌, ◌<◌, ℕ, zero, suc, List, [], ◌∷◌, length, map, Option, Some, None, refl, sym, ap, ◌∙◌, subst, arith}
+use Rattle.std.proofs.Common.{◌≡◌, ◌+◌, ℕ, suc, List, [], ◌∷◌, length, map, Option, Some, None, refl, sym, ap, ◌∙◌, subst}
 use Rattle.std.specs.Prelude.{All}
-use Rattle.std.specs.List.{AllZip, enumerate_from, range_with_len}
+use Rattle.std.specs.List.{enumerate_from, range_with_len}
 use Rattle.std.proofs.lemmas.List.{length-map}
-use Rattle.std.proofs.lemmas.List.Elements.{All-nil, All-cons, All-head, All-tail, All-weaker}
+use Rattle.std.proofs.lemmas.List.Elements.{All-weaker}
 use Rattle.gl_match.specs.declared.role.Role.{Role}
 use Rattle.gl_match.specs.declared.role.Role.TheVariants.{Port, Rail, Inner}
 use Rattle.gl_match.specs.Graph.{Device, Circuit, Pattern, HasShape, IsKnownRail, FitsInto}
 use Rattle.gl_lifting.specs.Replacement.{Slot, base}
 use Rattle.gl_match.specs.Cells.{Cell}
-use Rattle.gl_history.specs.Plain.{RoundCell, Lifted}
-use Rattle.gl_graph.specs.FitCells.{HasPorts, FitsIfAny, IsForCircuit}
-use Rattle.gl_history.specs.Reached.{start_of, slots_behind, behind, IsStep}
+use Rattle.gl_history.specs.Plain.{Lifted}
+use Rattle.gl_graph.specs.FitCells.{FitsIfAny, IsForCircuit}
+use Rattle.gl_history.specs.Reached.{start_of, slots_behind, IsStep}
 use Rattle.gl_history.proofs.HistoryLaws.{with_devices}
 
 rail_kept : (c : Circuit) (ds : List Device) (role : Role) → IsKnownRail c role → IsKnownRail (with_devices c ds) role

@@ -1,10 +1,10 @@
 -- A circuit in which chosen instances stand for what they were found in is not refused.
-use Rattle.std.proofs.Common.{◌≡◌, ◌+◌, ◌<◌, ◌≤◌, ℕ, zero, suc, List, [], ◌∷◌, ◌++◌, length, map, take, get_or, cond, eqb, ltb, Bool, true, false, Option, Some, None, refl, sym, ap, ◌∙◌, subst, arith, inl, inr}
+use Rattle.std.proofs.Common.{◌≡◌, ◌+◌, ◌<◌, ◌≤◌, ℕ, zero, suc, List, [], ◌∷◌, length, map, take, get_or, cond, eqb, ltb, Bool, true, false, Option, Some, None, refl, sym, ap, ◌∙◌, subst, arith, inl, inr}
 use Rattle.std.specs.Prelude.{◌⊎◌, not, All, find, flat_map, filter_map, zip, slice_get, slice_index_or}
 use Rattle.std.specs.List.{AllZip, AllByRecursion, list_any, enumerate_from}
 use Rattle.std.specs.Option.{option_or}
 use Rattle.std.proofs.lemmas.Bool.{cases_Bool, or_from, not_from_true, lt-ltb, eq-eqb, eqb-true, ltb-true, false_from_ne_true}
-use Rattle.std.proofs.lemmas.List.{length-map, get_or-take, length-take}
+use Rattle.std.proofs.lemmas.List.{get_or-take, length-take}
 use Rattle.std.proofs.lemmas.List.Folds.{list_any_none}
 use Rattle.std.proofs.lemmas.List.Elements.{All-head, All-tail}
 use Rattle.std.proofs.lemmas.Option.{slice_get-get_or}
@@ -17,15 +17,15 @@ use Rattle.gl_match.specs.Turns.{turns_of}
 use Rattle.gl_match.specs.Listing.{Instance, IsInstance, Listed}
 use Rattle.gl_graph.specs.declared.fault.BuildFault.{BuildFault}
 use Rattle.gl_graph.specs.declared.fault.BuildFault.TheVariants.{BadNet, BadShape, BadRail, BadPin, Memory}
-use Rattle.gl_graph.specs.Built.{IsShape, IsBuilt, NetsBelow, IsBuiltPattern}
+use Rattle.gl_graph.specs.Built.{IsShape, IsBuilt}
 use Rattle.gl_graph.specs.Faults.{first_in, is_bad_shape, shape_fault, net_fault, device_fault, is_bad_rail, rail_fault, pin_fault, circuit_fault}
 use Rattle.gl_graph.proofs.FaultLaws.{IsDevice, parts_none}
 use Rattle.gl_lifting.specs.Replacement.{Slot, Origin, is_lowest}
 use Rattle.gl_match.specs.Cells.{Cell}
 use Rattle.gl_history.specs.Plain.{RoundCell, Lifted}
 use Rattle.gl_graph.specs.FitCells.{HasPorts, FitsIfAny, IsForCircuit}
-use Rattle.gl_history.specs.Searching.{pattern_at, patterns_at, number_at, numbers_at}
-use Rattle.gl_history.specs.Replacing.{Chosen, chosen_at, chosen_of_cell, chosen_of, kind_at, slot_by, slots_at, slots_after, slots_of}
+use Rattle.gl_history.specs.Searching.{pattern_at, patterns_at, number_at}
+use Rattle.gl_history.specs.Replacing.{Chosen, chosen_at, chosen_of_cell, chosen_of, kind_at, slot_by, slots_at, slots_of}
 use Rattle.gl_history.specs.Reached.{AreFound, slots_behind}
 use Rattle.gl_history.proofs.HistoryLaws.{with_devices}
 use Rattle.gl_history.proofs.BindingLaws.{bound}

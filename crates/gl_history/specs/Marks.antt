@@ -1,5 +1,5 @@
 -- What becomes of each device of a circuit, as chosen instances are gone through. This project's own.
-use Rattle.std.specs.Prelude.{◌≡◌, ℕ, ◌+◌, ◌<◌, List, [], ◌∷◌, ◌++◌, length, map, slice_index_or, filter_map, All, if◌then◌else◌}
+use Rattle.std.specs.Prelude.{◌≡◌, ℕ, ◌+◌, ◌<◌, List, [], ◌∷◌, ◌++◌, map, slice_index_or, filter_map, All, if◌then◌else◌}
 use Rattle.gl_match.specs.Graph.{is_in}
 use Rattle.gl_match.specs.Listing.{Instance}
 use Rattle.gl_lifting.specs.Replacement.{Slot, made, is_lowest}

@@ -3,9 +3,9 @@ use Rattle.std.specs.Prelude.{◌≡◌, ℕ, zero, suc, ◌++◌, List, [], ◌
 use Rattle.std.specs.List.{enumerate_from}
 use Rattle.gl_match.specs.Graph.{Device, Circuit}
 use Rattle.gl_base.specs.Rounds.{IsRound}
-use Rattle.gl_lifting.specs.Replacement.{Origin, base, Slot}
+use Rattle.gl_lifting.specs.Replacement.{base, Slot}
 use Rattle.gl_match.specs.Cells.{Cell}
-use Rattle.gl_history.specs.Plain.{RoundCell, Round, Lifted}
+use Rattle.gl_history.specs.Plain.{RoundCell, Lifted}
 use Rattle.gl_history.specs.Searching.{patterns_at, numbers_at}
 use Rattle.gl_history.specs.Replacing.{Chosen, chosen_of, slots_of, slots_after}
 

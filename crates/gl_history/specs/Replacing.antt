@@ -2,10 +2,10 @@
 use Rattle.std.specs.Prelude.{ℕ, Bool, List, [], ◌∷◌, map, flat_map, filter_map, find, zip, Option, Some, None, option_map, slice_index_or, if◌then◌else◌}
 use Rattle.std.specs.List.{list_any, enumerate_from}
 use Rattle.gl_match.specs.declared.role.Pick.{Pick}
-use Rattle.gl_match.specs.Graph.{Device, Circuit, is_in}
+use Rattle.gl_match.specs.Graph.{Device, is_in}
 use Rattle.gl_match.specs.Listing.{Instance}
 use Rattle.gl_match.specs.Choice.{chosen_number}
-use Rattle.gl_lifting.specs.Replacement.{Origin, base, made, Slot, is_lowest}
+use Rattle.gl_lifting.specs.Replacement.{Origin, made, Slot, is_lowest}
 use Rattle.gl_match.specs.Cells.{Cell}
 use Rattle.gl_history.specs.Plain.{RoundCell}
 use Rattle.gl_history.specs.declared.composite.Composite.{Composite}

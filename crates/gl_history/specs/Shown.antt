@@ -1,7 +1,6 @@
 -- What rounds show of the history of a run. This project's own.
 use Rattle.std.specs.Prelude.{◌≡◌, List, length, map}
 use Rattle.std.specs.List.{AllZip, range_with_len}
-use Rattle.gl_base.specs.Libraries as libraries
 use Rattle.gl_lifting.specs.Runs.{Run}
 use Rattle.gl_lifting.specs.Replacement.{Slot}
 use Rattle.gl_lifting.specs.Histories as histories

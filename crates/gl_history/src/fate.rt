@@ -1,7 +1,7 @@
 //! What becomes of each device of a circuit, as chosen instances are marked.
 ghost use Rattle.std.specs.Prelude.{◌≡◌, ◌<◌, ℕ, length, All, if◌then◌else◌};
 ghost use Rattle.gl_match.specs.Graph.{is_in};
-ghost use Rattle.gl_history.specs.Marks.{fate_at, gone as gone_by, becomes as becomes_by, fate_by};
+ghost use Rattle.gl_history.specs.Marks.{fate_at, gone, becomes, fate_by};
 
 use gl_match::DevId;
 
@@ -17,8 +17,8 @@ pub enum Fate {
 }
 
 /// What becomes of a device of a chosen instance.
-fn gone(fate: Fate) -> Fate
-    ensures fate { result ≡ gone_by fate }
+fn set_gone(fate: Fate) -> Fate
+    ensures fate { result ≡ gone fate }
 {
     match fate {
         Fate::Stays | Fate::Goes => Fate::Goes,
@@ -27,8 +27,8 @@ fn gone(fate: Fate) -> Fate
 }
 
 /// What becomes of the lowest device of a chosen instance.
-fn becomes(index: usize, fate: Fate) -> Fate
-    ensures fate { result ≡ becomes_by index fate }
+fn set_chosen(index: usize, fate: Fate) -> Fate
+    ensures fate { result ≡ becomes index fate }
 {
     match fate {
         Fate::Stays | Fate::Goes => Fate::Becomes(index),
@@ -40,10 +40,10 @@ fn becomes(index: usize, fate: Fate) -> Fate
 fn clear(fates: &mut [Fate], set: &[DevId])
     requires below { All (λ dev. dev < length fates.old) set.now }
     ensures gone { (dev : ℕ) → fate_at fates.new dev
-        ≡ (if is_in set.now dev then gone_by (fate_at fates.old dev) else fate_at fates.old dev) }
+        ≡ (if is_in set.now dev then gone (fate_at fates.old dev) else fate_at fates.old dev) }
 {
     for dev in set {
-        fates[dev.0 as usize] = gone(fates[dev.0 as usize]);
+        fates[dev.0 as usize] = set_gone(fates[dev.0 as usize]);
     }
 }
 
@@ -55,6 +55,6 @@ pub fn mark(fates: &mut [Fate], set: &[DevId], index: usize)
 {
     clear(fates, set);
     if let Some(low) = set.first() {
-        fates[low.0 as usize] = becomes(index, fates[low.0 as usize]);
+        fates[low.0 as usize] = set_chosen(index, fates[low.0 as usize]);
     }
 }

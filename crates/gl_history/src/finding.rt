@@ -5,7 +5,7 @@ ghost use Rattle.gl_history.specs.Plain.{round_cell};
 ghost use Rattle.gl_graph.specs.FitCells.{IsForCircuit};
 ghost use Rattle.gl_history.specs.Reached.{AreFound};
 
-use crate::searching::{numbers_at, patterns_at};
+use crate::searching::{level_numbers, level_patterns};
 use crate::{Cell, RoundCell};
 use gl_graph::Circuit;
 use gl_match::Memory;
@@ -38,8 +38,8 @@ pub fn find(
     requires cells { All (IsForCircuit circuit.now) cells.now }
     ensures found { IfOk result (λ found. AreFound circuit.now first cells.now level found.items) }
 {
-    let numbers = numbers_at(alloc, cells, level)?;
-    let patterns = patterns_at(alloc, cells, level)?;
+    let numbers = level_numbers(alloc, cells, level)?;
+    let patterns = level_patterns(alloc, cells, level)?;
     let found = round_among(alloc, circuit, &patterns, first)?;
     let cells = round_cells(alloc, numbers, found)?;
     Ok(cells)

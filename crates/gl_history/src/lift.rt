@@ -13,8 +13,8 @@ ghost use Rattle.gl_history.specs.Shown.{IsLifted};
 use crate::circuit::with_devices;
 use crate::finding::find;
 use crate::marks::{Marks, add_round};
-use crate::replacing::{slots_after, taken_apart};
-use crate::searching::rounds_of;
+use crate::replacing::{replace_slots, taken_apart};
+use crate::searching::count_rounds;
 use crate::{Cell, Composite, Lifted, Origin, Round, RoundCell};
 use gl_graph::{Circuit, DevId, NetId};
 use gl_match::Memory;
@@ -91,7 +91,7 @@ fn left_by(
     let circuit = &before.last;
     let mut marks = Marks::none(alloc, circuit.devices())?;
     add_round(alloc, &mut marks, level, cells, found)?;
-    let slots = slots_after(
+    let slots = replace_slots(
         alloc,
         circuit,
         &before.last_origins,
@@ -163,7 +163,7 @@ impl Lift {
             → AreCells run cells.now → IsLifted run cells.now lifted) }
     {
         let mut lifted = start(alloc, base)?;
-        for level in 0..rounds_of(cells) {
+        for level in 0..count_rounds(cells) {
             lifted = lift_level(alloc, lifted, pinned, cells, level as u32)?;
         }
         Ok(lifted)

@@ -3,7 +3,7 @@ ghost use Rattle.std.specs.Prelude.{◌≡◌, ◌<◌, ◌++◌, ◌∷◌, [],
 ghost use Rattle.std.specs.List.{enumerate_from, zip};
 ghost use Rattle.gl_history.specs.Plain.{RoundCell as Found};
 ghost use Rattle.gl_history.specs.Replacing.{Chosen, chosen_of_cell, chosen_of};
-ghost use Rattle.gl_history.specs.Marks.{Holds, AreBelow, made_slot as slot_by, chosen_among};
+ghost use Rattle.gl_history.specs.Marks.{Holds, AreBelow, made_slot, chosen_among};
 
 use crate::fate::{Fate, mark};
 use crate::slot::Slot;
@@ -25,8 +25,8 @@ pub struct Marks {
 }
 
 /// The device that stands for a chosen instance of a number.
-fn made_slot(alloc: Global, kind: TypeId, number: u32, binding: &[NetId]) -> Result<Slot, Memory>
-    ensures slot { IfOk result (λ slot. slot ≡ slot_by kind number binding.now) }
+fn new_slot(alloc: Global, kind: TypeId, number: u32, binding: &[NetId]) -> Result<Slot, Memory>
+    ensures slot { IfOk result (λ slot. slot ≡ made_slot kind number binding.now) }
 {
     let nets = binding.to_vec(alloc)?;
     let device = Device { kind, nets };
@@ -61,7 +61,7 @@ fn add_chosen(
     ensures marked { OnOk result ((before : List Chosen) → Holds marks.old before
         → Holds marks.new (before ++ record {
           set = key.now.set;
-          slot = slot_by kind number key.now.binding;
+          slot = made_slot kind number key.now.binding;
           composite = composite;
         } ∷ [])) }
     ensures devices { length marks.new.fates.items ≡ length marks.old.fates.items }
@@ -70,7 +70,7 @@ fn add_chosen(
     mark(&mut marks.fates, &key.set, index);
     marks
         .slots
-        .push(made_slot(alloc, kind, number, &key.binding)?)?;
+        .push(new_slot(alloc, kind, number, &key.binding)?)?;
     marks.composites.push(composite)?;
     Ok(())
 }

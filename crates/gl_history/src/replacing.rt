@@ -49,7 +49,7 @@ fn add_slot(
 }
 
 /// The devices that stand behind a round, with their origins: one pass over the devices, by what becomes of each.
-pub fn slots_after(
+pub fn replace_slots(
     alloc: Global,
     circuit: &Circuit,
     origins: &[Origin],

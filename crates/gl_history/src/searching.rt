@@ -9,7 +9,7 @@ use gl_match::Memory;
 use std::alloc::Global;
 
 /// The pattern of a cell, if it is searched in the round of a level.
-fn pattern_at(cell: &Cell, level: u32) -> Option<&Pattern>
+fn level_pattern(cell: &Cell, level: u32) -> Option<&Pattern>
     ensures pattern { option_copied result ≡ searching.pattern_at level cell.now }
 {
     if cell.level == level {
@@ -28,14 +28,14 @@ fn add_pattern<'a>(
     ensures added { OnOk result (map (λ p. p.now) patterns.new.items
         ≡ map (λ p. p.now) patterns.old.items ++ searching.patterns_at level (cell.now ∷ [])) }
 {
-    if let Some(pattern) = pattern_at(cell, level) {
+    if let Some(pattern) = level_pattern(cell, level) {
         patterns.push(pattern)?;
     }
     Ok(())
 }
 
 /// The patterns of the cells that are searched in the round of a level, in library order.
-pub fn patterns_at<'a>(
+pub fn level_patterns<'a>(
     alloc: Global,
     cells: &'a [Cell],
     level: u32,
@@ -55,7 +55,7 @@ fn add_number(numbers: &mut Vec<u32>, number: usize, cell: &Cell, level: u32) ->
     ensures added { OnOk result (numbers.new.items
         ≡ numbers.old.items ++ filter_map (searching.number_at level) ((number, cell.now) ∷ [])) }
 {
-    if pattern_at(cell, level).is_some() {
+    if level_pattern(cell, level).is_some() {
         let Ok(number) = u32::try_from(number) else {
             return Err(Memory);
         };
@@ -65,7 +65,7 @@ fn add_number(numbers: &mut Vec<u32>, number: usize, cell: &Cell, level: u32) ->
 }
 
 /// The numbers of the cells that are searched in the round of a level, ascending.
-pub fn numbers_at(alloc: Global, cells: &[Cell], level: u32) -> Result<Vec<u32>, Memory>
+pub fn level_numbers(alloc: Global, cells: &[Cell], level: u32) -> Result<Vec<u32>, Memory>
     ensures numbers { IfOk result (λ ns. ns.items ≡ searching.numbers_at level cells.now) }
 {
     let mut numbers = Vec::new(alloc);
@@ -76,7 +76,7 @@ pub fn numbers_at(alloc: Global, cells: &[Cell], level: u32) -> Result<Vec<u32>,
 }
 
 /// How many rounds there are: one for each level from 0 to the greatest.
-pub fn rounds_of(cells: &[Cell]) -> u64
+pub fn count_rounds(cells: &[Cell]) -> u64
     ensures rounds { result ≡ searching.rounds_of cells.now }
     ensures most { result ≤ 2 ^ 32 }
 {

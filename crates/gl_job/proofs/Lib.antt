@@ -3,4 +3,4 @@ pub mod Same
 pub mod Outputs
 pub mod Laws
 pub mod Points
-pub mod Seen
+pub mod Signs

@@ -7,22 +7,22 @@ use Rattle.gl_job.specs.declared.kind.Kind.{Kind}
 use Rattle.gl_job.specs.Texts.{End, ended, no_memory}
 use Rattle.gl_job.specs.Runs.{Run, Opening, AreRest}
 use Rattle.gl_job.specs.Courses.{Course, refuse, read, may_stop, write, unless, input, Ends, Makes}
-use Rattle.gl_job.specs.Points.{told, told_kind, Refuses, IsRead, IsNotRead}
-use Rattle.gl_said.specs.Texts.{told_text}
+use Rattle.gl_job.specs.Points.{refusal_end, refusal_kind, Refuses, IsRead, IsNotRead}
+use Rattle.gl_said.specs.Texts.{text_if_any}
 use Rattle.gl_job.proofs.Same.{LooksSame, whole_same, unread_same}
 
 -- ---- refusals
 
 -- a refusal of the code is told as what it means
-pub told_refuses : {V E : Type 0} (kind : Kind) (text : E → List ℕ) (fault : Option E) (wanted : Result V E) → IsRefusal fault wanted → Refuses kind text wanted (told kind text fault)
-told_refuses kind text None (Ok v) h = refl
-told_refuses kind text None (Err f) h = inl refl
-told_refuses {V} {E} kind text (Some g) wanted h = subst (λ (w : Result V E). Refuses kind text w (ended kind (text g))) (sym h) (inr refl)
+pub end_refuses : {V E : Type 0} (kind : Kind) (text : E → List ℕ) (fault : Option E) (wanted : Result V E) → IsRefusal fault wanted → Refuses kind text wanted (refusal_end kind text fault)
+end_refuses kind text None (Ok v) h = refl
+end_refuses kind text None (Err f) h = inl refl
+end_refuses {V} {E} kind text (Some g) wanted h = subst (λ (w : Result V E). Refuses kind text w (ended kind (text g))) (sym h) (inr refl)
 
 -- what is told is of its kind and has its text
-pub told_parts : {E : Type 0} (kind : Kind) (text : E → List ℕ) (fault : Option E) → ended (told_kind kind fault) (told_text text fault) ≡ told kind text fault
-told_parts kind text None = refl
-told_parts kind text (Some f) = refl
+pub refusal_parts : {E : Type 0} (kind : Kind) (text : E → List ℕ) (fault : Option E) → ended (refusal_kind kind fault) (text_if_any text fault) ≡ refusal_end kind text fault
+refusal_parts kind text None = refl
+refusal_parts kind text (Some f) = refl
 
 -- want of memory may end a job at any point
 pub memory_ends : (opened : List Slot) (c : Course) (r : Run) → AreRest opened r → Ends opened c no_memory r

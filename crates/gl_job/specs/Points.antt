@@ -1,5 +1,5 @@
 -- What one point of a job answers: a value that was made of an input, or why there is none.
-use Rattle.std.specs.Prelude.{◌≡◌, ◌⊎◌, ℕ, List, [], Option, None, Some, Result, Ok, Err}
+use Rattle.std.specs.Prelude.{◌≡◌, ◌⊎◌, ℕ, List, Option, None, Some, Result, Ok, Err}
 use Rattle.gl_job.specs.declared.kind.Kind.{Kind}
 use Rattle.gl_job.specs.declared.kind.Kind.TheVariants as kinds
 use Rattle.gl_job.specs.declared.stop.Stop.{Stop}
@@ -7,14 +7,14 @@ use Rattle.gl_job.specs.Texts.{End, ended, no_memory, end_of_stop}
 use Rattle.gl_job.specs.Runs.{Run, Opening, IsWhole, Unread}
 
 -- the end that tells a refusal of a kind; nothing told is want of memory
-abbrev pub told : {E : Type 0} → Kind → (E → List ℕ) → Option E → End
-told kind text None = no_memory
-told kind text (Some fault) = ended kind (text fault)
+abbrev pub refusal_end : {E : Type 0} → Kind → (E → List ℕ) → Option E → End
+refusal_end kind text None = no_memory
+refusal_end kind text (Some fault) = ended kind (text fault)
 
 -- its kind
-abbrev pub told_kind : {E : Type 0} → Kind → Option E → Kind
-told_kind kind None = kinds.Memory
-told_kind kind (Some fault) = kind
+abbrev pub refusal_kind : {E : Type 0} → Kind → Option E → Kind
+refusal_kind kind None = kinds.Memory
+refusal_kind kind (Some fault) = kind
 
 -- the end tells the refusal that there is; want of memory may come in place of any answer
 abbrev pub Refuses : {V E : Type 0} → Kind → (E → List ℕ) → Result V E → End → Type 0

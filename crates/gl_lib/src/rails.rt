@@ -8,7 +8,7 @@ use indexmap::IndexSet;
 use std::alloc::{AllocError, Global};
 
 /// The names of a set but `0`.
-fn without_zero(alloc: Global, names: IndexSet<Name>) -> Result<Vec<Name>, AllocError>
+fn drop_zero(alloc: Global, names: IndexSet<Name>) -> Result<Vec<Name>, AllocError>
     ensures names { IfOk result (λ rails. rails.items ≡ filter (λ name. not (same_text name (codes "0"))) names.keys) }
 {
     names
@@ -30,6 +30,6 @@ pub fn run_rails(
     let mut names = IndexSet::new(alloc);
     add_names(alloc, &mut names, deck_globals)?;
     add_names(alloc, &mut names, library_globals)?;
-    let rails = without_zero(alloc, names)?;
+    let rails = drop_zero(alloc, names)?;
     Ok(rails)
 }

@@ -3,7 +3,7 @@ use Rattle.std.proofs.Common.{◌≡◌, ◌⊎◌, ℕ, zero, suc, ◌<◌, ◌
 use Rattle.std.specs.Prelude.{max, replicate, nat_lt, ◌&&◌}
 use Rattle.std.proofs.lemmas.Bool.{cases_Bool, and_parts}
 use Rattle.gl_base.specs.Stems.{StandsIn, stem_with}
-use Rattle.gl_name.specs.Needed.{underscores, needed_at, needed}
+use Rattle.gl_name.specs.Needs.{underscores, need_at, need}
 
 -- so many underscores are counted as so many at least
 run_counted : (n : ℕ) (behind : List ℕ) → n ≤ underscores (replicate n 95 ++ behind)
@@ -31,14 +31,14 @@ below_max n a b h =
     ]
 
 -- a name in which the stem stands needs more underscores
-stands_after : (n : ℕ) (before behind : List ℕ) → n < needed (before ++ stem_with n ++ behind)
+stands_after : (n : ℕ) (before behind : List ℕ) → n < need (before ++ stem_with n ++ behind)
 stands_after n [] behind = omega (arith, run_counted n behind)
 stands_after n (b ∷ bs) behind = omega (arith, stands_after n bs behind)
 
-pub needs_more : (n : ℕ) (name : List ℕ) → StandsIn (stem_with n) name → n < needed name
-needs_more n name stands = subst (λ whole. n < needed whole) (sym stands.2) (stands_after n stands.0 stands.1)
+pub needs_more : (n : ℕ) (name : List ℕ) → StandsIn (stem_with n) name → n < need name
+needs_more n name stands = subst (λ whole. n < need whole) (sym stands.2) (stands_after n stands.0 stands.1)
 
-stands_here : (n : ℕ) (name : List ℕ) → n < needed_at name → StandsIn (stem_with n) name
+stands_here : (n : ℕ) (name : List ℕ) → n < need_at name → StandsIn (stem_with n) name
 stands_here n [] h = absurd (omega (arith, h))
 stands_here n (x ∷ []) h = absurd (omega (arith, h))
 stands_here n (x ∷ g ∷ bytes) h =
@@ -52,10 +52,10 @@ stands_here n (x ∷ g ∷ bytes) h =
     ]
 
 -- a stem with fewer underscores than a name needs stands in it
-pub stands_below : (n : ℕ) (name : List ℕ) → n < needed name → StandsIn (stem_with n) name
+pub stands_below : (n : ℕ) (name : List ℕ) → n < need name → StandsIn (stem_with n) name
 stands_below n [] h = absurd (omega (arith, h))
 stands_below n (b ∷ bs) h =
-    elim (below_max n (needed_at (b ∷ bs)) (needed bs) h) [
+    elim (below_max n (need_at (b ∷ bs)) (need bs) h) [
       | inl here ↦ stands_here n (b ∷ bs) here
       | inr later ↦ let there = stands_below n bs later in (b ∷ there.0, there.1, ap (λ ys. b ∷ ys) there.2)
     ]

@@ -1,1 +1,1 @@
-pub mod Needed
+pub mod Needs

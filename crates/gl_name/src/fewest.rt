@@ -1,21 +1,21 @@
 ghost use Rattle.std.specs.Prelude.{◌≡◌, IfOk};
 ghost use Rattle.gl_base.specs.Stems.{IsStem, names_in, stem_with};
-ghost use Rattle.gl_name.specs.Needed.{needed_by};
+ghost use Rattle.gl_name.specs.Needs.{need_of_names};
 
 use crate::Flat;
-use crate::needed::{needed_by_devices, needed_by_names};
+use crate::underscores::{underscores_for_devices, underscores_for_names};
 use gl_fault::Memory;
 use std::alloc::Global;
 
 /// How many underscores the stem of a flat deck has.
-fn needed_by_deck(flat: &Flat) -> usize
-    ensures needed { result ≡ needed_by (names_in flat.now) }
+fn underscores_for_deck(flat: &Flat) -> usize
+    ensures needed { result ≡ need_of_names (names_in flat.now) }
 {
-    let devices = needed_by_devices(0, flat.devices());
-    let nets = needed_by_names(devices, flat.nets().items());
-    let rails = needed_by_names(nets, flat.rails());
+    let devices = underscores_for_devices(0, flat.devices());
+    let nets = underscores_for_names(devices, flat.nets().items());
+    let rails = underscores_for_names(nets, flat.rails());
     match flat.top() {
-        Some(head) => needed_by_names(rails, head.ports()),
+        Some(head) => underscores_for_names(rails, head.ports()),
         None => rails,
     }
 }
@@ -35,5 +35,5 @@ fn with_underscores(alloc: Global, count: usize) -> Result<Vec<u8>, Memory>
 pub fn stem(alloc: Global, flat: &Flat) -> Result<Vec<u8>, Memory>
     ensures stem { IfOk result (λ stem. IsStem (names_in flat.now) stem.items) }
 {
-    with_underscores(alloc, needed_by_deck(flat))
+    with_underscores(alloc, underscores_for_deck(flat))
 }

@@ -3,9 +3,9 @@
 
 mod fewest;
 mod laws;
-mod needed;
 #[cfg(test)]
 mod tests;
+mod underscores;
 
 pub use fewest::stem;
 pub use gl_flat::Flat;

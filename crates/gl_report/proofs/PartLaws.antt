@@ -1,7 +1,7 @@
 -- Parts, one after another.
-use Rattle.std.proofs.Common.{◌≡◌, ℕ, zero, suc, ◌+◌, ◌<◌, ◌≤◌, List, [], ◌∷◌, ◌++◌, length, take, get_or, refl, sym, ap, ◌∙◌, arith, length-append, min, map}
+use Rattle.std.proofs.Common.{◌≡◌, ℕ, zero, suc, ◌+◌, ◌<◌, List, [], ◌∷◌, ◌++◌, length, take, get_or, refl, sym, ap, ◌∙◌, arith, min, map}
 use Rattle.std.specs.Prelude.{zip}
-use Rattle.std.proofs.lemmas.List.{flat_map_more, take_all, take-take, take_at, length-map, get_or-map}
+use Rattle.std.proofs.lemmas.List.{flat_map_more, take_all, length-map, get_or-map}
 use Rattle.std.proofs.lemmas.Slice.Zip.{length-zip}
 use Rattle.gl_base.specs.Reports.{name_at, part, parts}
 use Rattle.gl_lifting.specs.Replacement.{Origin}
@@ -30,13 +30,6 @@ parts_step names images k n out before after name image in_names in_images next 
 -- the last turn has printed them all
 pub parts_all : (names images : List (List ℕ)) (k : ℕ) (out text : List ℕ) → k ≡ min (length names) (length images) → text ≡ out ++ behind_blanks (take k (parts names images)) → text ≡ out ++ behind_blanks (parts names images)
 parts_all names images k out text all is = is ∙ ap (λ ws. out ++ behind_blanks ws) (take_all k (parts names images) (omega (arith, length-map (zip names images) part, length-zip names images, all)))
-
--- what was appended to what began with the text before still begins with it
-pub front_stays : (out middle after more : List ℕ) → middle ≡ out ++ more → take (length middle) after ≡ middle → take (length out) after ≡ out
-front_stays out middle after more is stays =
-    let short : length out ≤ length middle = omega (arith, ap length is, length-append out more) in
-    let cut : take (length out) (take (length middle) after) ≡ take (length out) after = take-take (length out) (length middle) after short in
-    sym cut ∙ (ap (take (length out)) (stays ∙ is) ∙ take_at out more (length out) refl)
 
 -- the name of a device, by where it comes from
 pub origin_named : (f : Origin → List ℕ) (os : List declared.Origin) (i : ℕ) (o : declared.Origin) → i < length os → o ≡ get_or os i o → f (origin_value o) ≡ name_at (map f (map origin_value os)) i

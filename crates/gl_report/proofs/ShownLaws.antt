@@ -1,7 +1,7 @@
 -- What is told of rounds by numbers of cells is what is told of a history.
 use Rattle.std.proofs.Common.{◌≡◌, ◌+◌, ◌<◌, ℕ, zero, suc, List, [], ◌∷◌, ◌++◌, length, map, filter, cond, eqb, get_or, drop, Bool, true, false, Option, None, Some, refl, sym, ap, ◌∙◌, arith}
-use Rattle.std.specs.Prelude.{◌==◌, filter_map, flat_map, zip, find, option_map}
-use Rattle.std.specs.List.{AllZip, count_by, enumerate_from, range_with_len, cons_option}
+use Rattle.std.specs.Prelude.{◌==◌, filter_map, flat_map, zip, option_map}
+use Rattle.std.specs.List.{AllZip, enumerate_from, range_with_len, cons_option}
 use Rattle.std.proofs.lemmas.Bool.{eq-eqb, ne_eqb}
 use Rattle.std.proofs.lemmas.List.Sums.{sum_by-cons}
 use Rattle.gl_text.specs.Decks.{Sub}

@@ -81,7 +81,7 @@ fn put_found(
 }
 
 /// What was found of the cell of a number.
-fn found_of(number: usize, cells: &[RoundCell]) -> Option<&RoundCell>
+fn find_cell(number: usize, cells: &[RoundCell]) -> Option<&RoundCell>
     ensures found { option_copied result ≡ shown.found_of number cells.now }
 {
     for found in cells {
@@ -128,7 +128,7 @@ fn put_at(
     if cell.level() as usize != level {
         return Ok(());
     }
-    put_told(out, names, sub, cell.skip(), found_of(number, cells))
+    put_told(out, names, sub, cell.skip(), find_cell(number, cells))
 }
 
 /// Appends what became of each cell of a level, in library order.

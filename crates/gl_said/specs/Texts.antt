@@ -22,6 +22,6 @@ abbrev pub named : List ℕ → List ℕ → List ℕ → List ℕ
 named text name rest = text ++ (name ++ rest)
 
 -- the text of a refusal, if it tells one; nothing of want of memory
-abbrev pub told_text : {E : Type 0} → (E → List ℕ) → Option E → List ℕ
-told_text text None = []
-told_text text (Some fault) = text fault
+abbrev pub text_if_any : {E : Type 0} → (E → List ℕ) → Option E → List ℕ
+text_if_any text None = []
+text_if_any text (Some fault) = text fault

@@ -1,6 +1,6 @@
 -- Chains of X cards by places are those by names.
 use Rattle.std.proofs.Common.{◌≡◌, ◌-◌, ◌≤◌, take, drop, ℕ, zero, suc, List, [], ◌∷◌, length, map, Bool, true, false, Option, Some, None, get_or, refl, sym, ap, subst, ◌∙◌, arith}
-use Rattle.std.specs.Prelude.{not, ◌||◌, filter, flat_map, slice_get, slice_index_or, option_to_list}
+use Rattle.std.specs.Prelude.{Contains, not, ◌||◌, filter, flat_map, slice_get, slice_index_or, option_to_list}
 use Rattle.std.specs.List.{IsDistinct, list_any}
 use Rattle.std.proofs.Math.ListN.{replicate}
 use Rattle.std.proofs.Math.Seq.{take-length}
@@ -14,7 +14,8 @@ use Rattle.gl_text.specs.Flattening.{at_depth, is_none_left}
 use Rattle.gl_deck.specs.declared.body.Body as cards
 use Rattle.gl_deck.specs.Bodies.{bodies_value, body_value, names_of}
 use Rattle.gl_deck.specs.Places.{place_in, places_of}
-use Rattle.gl_deck.proofs.Members.{In, in_any, from_any, at_in, in_at, in_filter, from_filter, is_in_from, from_is_in}
+use Rattle.gl_deck.proofs.Members.{at_in, in_at, is_in_from, from_is_in}
+use Rattle.gl_lists.proofs.Membership.{in_any, from_any, in_filter, from_filter}
 use Rattle.gl_deck.proofs.PlaceLaws.{own_place, at_its_place}
 use Rattle.gl_size.specs.Chains.{has_chain, chains_of}
 use Rattle.gl_size.specs.Tallies.{Tally, tally_of, tallies_of}
@@ -39,13 +40,13 @@ mark_at : (p : Sub → Bool) (subs : List Sub) (k : ℕ) (s : Sub) → slice_get
 mark_at p subs k s h = get_or-map p subs k s false (slice_get_within subs k s h) ∙ ap p (get_or_from_slice_get subs k s s h)
 
 -- a subcircuit's place has its mark
-own_mark : (p : Sub → Bool) (subs : List Sub) (s : Sub) → IsDistinct same_text (names_of subs) → In s subs → at_place (map p subs) (place_in subs s.head.name) ≡ p s
+own_mark : (p : Sub → Bool) (subs : List Sub) (s : Sub) → IsDistinct same_text (names_of subs) → Contains subs s → at_place (map p subs) (place_in subs s.head.name) ≡ p s
 own_mark p subs s distinct i =
     let g = in_at s subs i in
     ap (at_place (map p subs)) (own_place subs g.0 s distinct g.1) ∙ or_false (at (map p subs) g.0) ∙ mark_at p subs g.0 s g.1
 
 -- a mark at a name's place is that of a subcircuit of this name
-marked_by : (p : Sub → Bool) (subs : List Sub) (n : List ℕ) (place : Option ℕ) → place_in subs n ≡ place → at_place (map p subs) place ≡ true → (s : Sub) × (In s subs) × (s.head.name ≡ n) × (p s ≡ true)
+marked_by : (p : Sub → Bool) (subs : List Sub) (n : List ℕ) (place : Option ℕ) → place_in subs n ≡ place → at_place (map p subs) place ≡ true → (s : Sub) × (Contains subs s) × (s.head.name ≡ n) × (p s ≡ true)
 marked_by p subs n None e m = absurd cc
 marked_by p subs n (Some k) e m =
     let g = at_its_place subs n k e in
@@ -59,13 +60,13 @@ by_place p subs names distinct =
     same_bool (list_any p (with_names subs names)) (list_any there names)
     (λ e.
     let s = from_any p (with_names subs names) e in
-    let i = from_filter has s.0 subs s.1 in
-    in_any there s.0.head.name names (from_is_in s.0.head.name names i.1) (own_mark p subs s.0 distinct i.0 ∙ s.2))
+    let i = from_filter has subs s.0 s.1 in
+    in_any there names s.0.head.name (from_is_in s.0.head.name names i.1) (own_mark p subs s.0 distinct i.0 ∙ s.2))
     (λ e.
     let n = from_any there names e in
     let s = marked_by p subs n.0 (place_in subs n.0) refl n.2 in
-    let named : In s.0.head.name names = subst (λ (m : List ℕ). In m names) (sym s.2) n.1 in
-    in_any p s.0 (with_names subs names) (in_filter has s.0 subs s.1 (is_in_from s.0.head.name names named)) s.3)
+    let named : Contains names s.0.head.name = subst (λ (m : List ℕ). Contains names m) (sym s.2) n.1 in
+    in_any p (with_names subs names) s.0 (in_filter has subs s.0 s.1 (is_in_from s.0.head.name names named)) s.3)
 
 any_flat : {A B : Type 0} (p : B → Bool) (f : A → List B) (xs : List A) → list_any p (flat_map f xs) ≡ list_any (λ x. list_any p (f x)) xs
 any_flat p f [] = refl

@@ -1,5 +1,5 @@
 -- Counts by places are those by names, and a sum that is cut at a limit says what the limit decides.
-use Rattle.std.proofs.Common.{◌≡◌, ◌+◌, ◌≤◌, ℕ, zero, suc, List, [], ◌∷◌, length, map, cond, ltb, Bool, true, false, Option, Some, None, get_or, refl, sym, ap, ◌∙◌, arith, ltb-false}
+use Rattle.std.proofs.Common.{◌≡◌, ◌+◌, ℕ, zero, suc, List, [], ◌∷◌, length, map, cond, ltb, Bool, true, false, Option, Some, None, get_or, refl, sym, ap, ◌∙◌, arith, ltb-false}
 use Rattle.std.specs.Prelude.{min, not, sum_by, slice_index, find, unwrap_or, option_map, option_to_list}
 use Rattle.std.proofs.Math.Nat.{zero-min}
 use Rattle.std.specs.List.{position_or_len}

@@ -1,5 +1,4 @@
 use Rattle.std.specs.Prelude.{option_map}
-use Rattle.indexmap.specs.IndexMap.{values}
 use Rattle.gl_cells.specs.Skips.{skip_value}
 use Rattle.gl_cells.proofs.SaidLaws.{said}
 use Rattle.gl_cells.proofs.cells.lib_cell.Goals as goal

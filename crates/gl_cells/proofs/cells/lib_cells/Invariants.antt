@@ -1,5 +1,4 @@
 use Rattle.std.proofs.Common.{◌≡◌, ◌++◌, drop, map}
-use Rattle.indexmap.specs.IndexMap.{values}
 use Rattle.gl_base.specs.Libraries.{cell_of}
 use Rattle.gl_cells.specs.Limited.{limits_cause}
 use Rattle.gl_cells.proofs.cells.lib_cells.Given as goal

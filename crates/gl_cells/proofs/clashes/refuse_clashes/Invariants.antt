@@ -1,5 +1,4 @@
 use Rattle.std.proofs.Common.{◌≡◌, drop}
-use Rattle.indexmap.specs.IndexMap.{values}
 use Rattle.gl_cells.specs.Limited.{clashes_cause}
 use Rattle.gl_cells.proofs.clashes.refuse_clashes.Given as goal
 

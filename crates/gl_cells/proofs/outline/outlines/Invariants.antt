@@ -1,5 +1,4 @@
 use Rattle.std.proofs.Common.{◌≡◌, ◌++◌, length, map}
-use Rattle.indexmap.specs.IndexMap.{values}
 use Rattle.gl_cells.specs.Outlines.{outline_of, outlines_of}
 use Rattle.gl_cells.proofs.outline.outlines.Given as goal
 

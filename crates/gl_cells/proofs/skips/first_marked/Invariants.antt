@@ -1,5 +1,4 @@
 use Rattle.std.proofs.Common.{◌≡◌, length}
-use Rattle.indexmap.specs.IndexMap.{values}
 use Rattle.gl_deck.specs.Bodies.{bodies_value}
 use Rattle.gl_cells.specs.Outlines.{marked_callee}
 use Rattle.gl_cells.proofs.skips.first_marked.Given as goal

@@ -19,7 +19,7 @@ returns-in-Some-clause-chosen c = λ first chosen h.
 pub returns-clause-pick : goal.returns-clause-pick
 returns-clause-pick c = λ first chosen h.
     let set = c.args.set.now in
-    let none : None ≡ least_owner c.deref.result.now set = sym c.in_default.is ∙ c.least_owner.ensures.least in
+    let none : None ≡ least_owner c.deref.result.now set = sym c.in_default.is ∙ c.number_over.ensures.least in
     pick_next first chosen c.args.owners.now.numbers.items c.args.owners.now.next set h (none ∙ ap (λ os. least_owner os set) c.deref.ensures.value)
 
 pub returns-clause-chosen : goal.returns-clause-chosen
@@ -27,7 +27,7 @@ returns-clause-chosen c = λ first chosen h.
     let set = c.args.set.now in
     let old = c.args.owners.now.numbers in
     let next = c.args.owners.now.next in
-    let none : None ≡ least_owner c.deref.result.now set = sym c.in_default.is ∙ c.least_owner.ensures.least in
+    let none : None ≡ least_owner c.deref.result.now set = sym c.in_default.is ∙ c.number_over.ensures.least in
     let as_many : length c.give.new.numbers ≡ old.len = c.give.auto.numbers ∙ ap length c.deref_mut.ensures.value ∙ sym old.ok.0 in
     let given : (dev : ℕ) → owner_at c.give.new.numbers dev ≡ cond (is_in set dev) (Some next) (owner_at old.items dev) = λ dev. c.give.ensures.given dev ∙ ap (λ os. cond (is_in set dev) (Some next) (owner_at os dev)) c.deref_mut.ensures.value in
     subst (λ (os : List (Option ℕ)). Keeps first (chosen_after first chosen set) os (next + 1)) (sym (with_items_is old c.give.new.numbers as_many))

@@ -1,4 +1,4 @@
-use Rattle.std.proofs.Common.{◌≡◌, ◌∙◌, ap, sym, subst, List, ℕ, [], ◌∷◌, length, refl, inl, ◌<◌}
+use Rattle.std.proofs.Common.{◌≡◌, ◌∙◌, ap, sym, subst, List, ℕ, [], ◌∷◌, length, ◌<◌}
 use Rattle.std.proofs.lemmas.List.{append-nil}
 use Rattle.std.specs.Prelude.{slice_get}
 use Rattle.std.specs.List.{IsDistinct}
@@ -8,6 +8,7 @@ use Rattle.gl_text.specs.Decks.{steps}
 use Rattle.gl_deck.specs.Bodies.{names_of}
 use Rattle.gl_deck.specs.Walks.{Walk, marked_all, called_names}
 use Rattle.gl_deck.proofs.Members.{among_in}
+use Rattle.gl_lists.proofs.Membership.{in_head}
 use Rattle.gl_deck.proofs.ReachLaws.{settled, keeps}
 use Rattle.gl_deck.proofs.MarkLaws.{left}
 use Rattle.gl_deck.proofs.WalkLaws.{IsWalk, begins, advances, less_left}
@@ -22,7 +23,7 @@ loop-place-init c =
     let distinct : IsDistinct same_text (names_of subs) = c.len.ensures.names_differ in
     let is = among_in t subs c.requires.among in
     let sized : length c.in_ok-walk.walk.marks ≡ length subs = c.in_ok-walk.ensures.sized ∙ c.len.ensures.len in
-    let start = begins subs found t c.in_ok-walk.walk distinct is (keeps subs t (length subs) (t ∷ []) is (inl refl)) sized c.in_ok-walk.ensures.nothing c.in_ok-walk.ensures.empty in
+    let start = begins subs found t c.in_ok-walk.walk distinct is (keeps subs t (length subs) (t ∷ []) is (in_head t [])) sized c.in_ok-walk.ensures.nothing c.in_ok-walk.ensures.empty in
     let name : c.name.result.now ≡ t.head.name = c.name.ensures.name ∙ ap (λ (h : Head). h.name) c.head.ensures.head in
     let new : c.mark_name.new.self ≡ marked_all subs (t.head.name ∷ []) c.in_ok-walk.walk = c.in_ok-mark_name.ensures.marked ∙ ap (λ (n : List ℕ). marked_all subs (n ∷ []) c.in_ok-walk.walk) name in
     subst (λ (w : Walk). IsWalk subs found t w) (sym new) start

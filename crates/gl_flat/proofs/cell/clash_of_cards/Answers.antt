@@ -1,5 +1,4 @@
 use Rattle.std.proofs.Common.{◌∙◌, ap, sym, subst}
-use Rattle.indexmap.specs.IndexMap.{values}
 use Rattle.gl_text.specs.Flattening.{DEPTH, flat_devices, top_place}
 use Rattle.gl_flat.specs.SeenNames.{PlainDiffer}
 use Rattle.gl_flat.proofs.PlainNames.{plain_differ}

@@ -1,11 +1,9 @@
 use Rattle.std.proofs.Common.{◌≡◌, ◌∙◌, ◌∷◌, ◌++◌, ap, sym, map, flat_map, option_map, subst, List, ℕ}
 use Rattle.std.specs.Prelude.{IfOk, codes}
-use Rattle.indexmap.specs.IndexMap.{keys, values}
 use Rattle.gl_text.specs.LogicalLines.{name_clash}
 use Rattle.gl_text.specs.Cards.{Head}
 use Rattle.gl_text.specs.Decks.{Sub, once}
 use Rattle.gl_text.specs.Flattening.{DEPTH, FlatDevice, flat_devices, top_place, bearers, first_clash, net, top_net, clash_in}
-use Rattle.gl_deck.specs.Bodies.{names_of}
 use Rattle.gl_flat.proofs.ClashLaws.{clash_same}
 use Rattle.gl_flat.proofs.PlainNames.{plain_differ}
 use Rattle.gl_flat.proofs.SoundLaws.{once_same, ports_once}

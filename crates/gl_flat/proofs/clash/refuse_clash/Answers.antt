@@ -19,7 +19,7 @@ returns-in_err-add_all-clause-refused c =
     let plain : AllDiffer (plain_names (filter may_clash bs)) = ap has_twice (plain_kept bs) ∙ c.requires.plain in
     found_on fault_of c.from_residual.result c.in_err-add_all.field-0.0 _ c.from_residual.ensures.1
     (subst (IsFound o) (sym (plain_passed (map (λ n. net (top_net n)) tops) bs))
-    (found_clash o tops (filter may_clash bs) plain (subst (λ (s : Seen). IsRefusal o (seen_all s (filter may_clash bs))) c.behind-seen.ensures.nothing c.in_err-add_all.ensures.refused)))
+    (found_clash o tops (filter may_clash bs) plain (subst (λ (s : Seen). IsRefusal o (seen_all s (filter may_clash bs))) c.of_scene-seen.ensures.nothing c.in_err-add_all.ensures.refused)))
 
 pub returns-clause-ok : goal.returns-clause-ok
 returns-clause-ok c =
@@ -27,4 +27,4 @@ returns-clause-ok c =
     let tops = top_names c.args.scene.now in
     let plain : AllDiffer (plain_names (filter may_clash bs)) = ap has_twice (plain_kept bs) ∙ c.requires.plain in
     plain_passed (map (λ n. net (top_net n)) tops) bs
-    ∙ none_clash tops (filter may_clash bs) c.add_all.new.self plain (ap (λ s. seen_all s (filter may_clash bs)) (sym c.behind-seen.ensures.nothing) ∙ c.in_ok-add_all.ensures.ok)
+    ∙ none_clash tops (filter may_clash bs) c.add_all.new.self plain (ap (λ s. seen_all s (filter may_clash bs)) (sym c.of_scene-seen.ensures.nothing) ∙ c.in_ok-add_all.ensures.ok)

@@ -1,4 +1,3 @@
-use Rattle.indexmap.specs.IndexMap.{values}
 use Rattle.gl_flat.specs.Ways.{place_of}
 use Rattle.gl_flat.proofs.ExpandLaws.{devices_more}
 use Rattle.gl_flat.proofs.expand.+expansion.Goals as goal

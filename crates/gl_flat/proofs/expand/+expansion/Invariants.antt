@@ -1,5 +1,4 @@
 use Rattle.std.proofs.Common.{◌≡◌, ◌++◌, ◌+◌, ◌*◌, take}
-use Rattle.indexmap.specs.IndexMap.{values}
 use Rattle.gl_text.specs.Flattening.{flat_devices}
 use Rattle.gl_deck.specs.Bodies.{bodies_value}
 use Rattle.gl_flat.specs.Ways.{place_of}

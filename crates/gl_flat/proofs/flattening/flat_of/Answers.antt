@@ -1,5 +1,5 @@
-use Rattle.std.proofs.Common.{◌≡◌, ◌∙◌, map}
-use Rattle.gl_text.specs.Flattening.{Flat, flat_card}
+use Rattle.std.proofs.Common.{◌∙◌, map}
+use Rattle.gl_text.specs.Flattening.{flat_card}
 use Rattle.gl_flat.proofs.FlatKept.{are_kept, made_devices}
 use Rattle.gl_flat.proofs.flattening.flat_of.Goals as goal
 

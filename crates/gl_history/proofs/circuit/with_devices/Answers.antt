@@ -1,5 +1,4 @@
 use Rattle.std.proofs.Common.{◌≡◌, ◌∙◌, ap}
-use Rattle.gl_match.specs.Graph.{Circuit}
 use Rattle.gl_graph.specs.Built.{circuit_of}
 use Rattle.gl_graph.specs.Faults.{circuit_fault}
 use Rattle.gl_history.proofs.SoundLaws.{only_memory}

@@ -1,8 +1,8 @@
 use Rattle.std.proofs.Common.{◌≡◌, ◌∙◌, [], List, length, map, sym, ap, subst}
 use Rattle.std.specs.Prelude.{All}
 use Rattle.std.proofs.lemmas.List.{length-map}
-use Rattle.gl_match.specs.Graph.{Circuit, Device}
-use Rattle.gl_lifting.specs.Replacement.{Slot, Origin}
+use Rattle.gl_match.specs.Graph.{Circuit}
+use Rattle.gl_lifting.specs.Replacement.{Slot}
 use Rattle.gl_history.specs.declared.fate.Fate.{Fate}
 use Rattle.gl_history.specs.Plain.{Lifted, origin_value}
 use Rattle.gl_history.specs.Replacing.{chosen_of, slots_of}
@@ -28,19 +28,19 @@ add_round-requires-clause-below c =
 pub add_round-requires-clause-picked : goal.add_round-requires-clause-picked
 add_round-requires-clause-picked c = picked c.args.before.now.last _ c.args.level c.args.cells.now c.args.found.now c.requires.found
 
-pub slots_after-requires-clause-origins : goal.slots_after-requires-clause-origins
-slots_after-requires-clause-origins c =
+pub replace_slots-requires-clause-origins : goal.replace_slots-requires-clause-origins
+replace_slots-requires-clause-origins c =
     ap length c.deref.ensures.value
     ∙ sym (length-map c.before-2.inside.last_origins.items origin_value)
     ∙ ap (λ (l : Lifted). length l.last_origins) c.before-2.view_is
     ∙ c.requires.origins
     ∙ sym (ap (λ (l : Lifted). length l.last.devices) c.before-2.view_is)
 
-pub slots_after-requires-clause-fates : goal.slots_after-requires-clause-fates
-slots_after-requires-clause-fates c = ap length c.deref-3.ensures.value ∙ c.add_round.ensures.devices ∙ c.in_ok-marks.ensures.devices ∙ c.devices.ensures.count
+pub replace_slots-requires-clause-fates : goal.replace_slots-requires-clause-fates
+replace_slots-requires-clause-fates c = ap length c.deref-3.ensures.value ∙ c.add_round.ensures.devices ∙ c.in_ok-marks.ensures.devices ∙ c.devices.ensures.count
 
-pub slots_after-requires-clause-within : goal.slots_after-requires-clause-within
-slots_after-requires-clause-within c =
+pub replace_slots-requires-clause-within : goal.replace_slots-requires-clause-within
+replace_slots-requires-clause-within c =
     let new = c.add_round.new.marks in
     let chosen = chosen_of c.args.level c.args.cells.now c.args.found.now in
     let marked : IsMarked chosen new.fates.items new.slots.items new.composites.items = c.in_ok-add_round.ensures.marked [] c.in_ok-marks.ensures.marked in

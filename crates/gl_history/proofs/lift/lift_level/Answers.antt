@@ -1,6 +1,5 @@
-use Rattle.std.proofs.Common.{◌≡◌, ◌∙◌, ◌++◌, ◌∷◌, [], suc, List, length, map, sym, ap, subst, arith}
+use Rattle.std.proofs.Common.{◌≡◌, ◌∙◌, ◌++◌, ◌∷◌, [], suc, List, length, map, ap, subst, arith}
 use Rattle.gl_match.specs.Graph.{Circuit}
-use Rattle.gl_history.specs.declared.composite.Composite.{Composite}
 use Rattle.gl_history.specs.Plain.{RoundCell, Round, Lifted, origin_value}
 use Rattle.gl_history.specs.Replacing.{Chosen, chosen_of}
 use Rattle.gl_history.specs.Reached.{AreFound, behind}

@@ -1,4 +1,4 @@
-use Rattle.std.proofs.Common.{◌≡◌, ◌∙◌, map}
+use Rattle.std.proofs.Common.{◌∙◌}
 use Rattle.gl_history.specs.Plain.{Lifted}
 use Rattle.gl_history.proofs.ReachedLaws.{originals_are}
 use Rattle.gl_history.proofs.lift.start.Goals as goal

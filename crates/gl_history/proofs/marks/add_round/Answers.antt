@@ -1,4 +1,4 @@
-use Rattle.std.proofs.Common.{◌<◌, ◌+◌, ◌∙◌, ◌++◌, List, length, take, ap, subst, arith}
+use Rattle.std.proofs.Common.{◌∙◌, ◌++◌, List, take, subst, arith}
 use Rattle.std.specs.Prelude.{flat_map}
 use Rattle.std.proofs.lemmas.List.{take_all}
 use Rattle.gl_history.specs.Replacing.{Chosen, chosen_of_cell}

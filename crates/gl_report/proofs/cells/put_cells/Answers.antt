@@ -8,7 +8,7 @@ use Rattle.gl_base.specs.Libraries.{Cell}
 use Rattle.gl_base.specs.RoundReports.{part_lines}
 use Rattle.gl_report.specs.Shown.{told_at}
 use Rattle.gl_report.specs.Pieces.{parts_text}
-use Rattle.gl_report.proofs.PartLaws.{front_stays}
+use Rattle.gl_card.proofs.PrintLaws.{front_stays}
 use Rattle.gl_report.proofs.ListLaws.{pair_turn, pair_all, nested}
 use Rattle.gl_report.proofs.cells.put_cells.Goals as goal
 

@@ -1,11 +1,11 @@
-use Rattle.std.proofs.Common.{◌≡◌, ◌∙◌, ◌+◌, [], ◌∷◌, ◌++◌, ℕ, length, sym, ap, arith}
+use Rattle.std.proofs.Common.{◌≡◌, ◌+◌, [], ◌∷◌, ◌++◌, ℕ, length, arith}
 use Rattle.std.proofs.lemmas.List.{length_push}
 use Rattle.std.proofs.lemmas.Slice.Zip.{zip_turn, zip_end}
 use Rattle.gl_match.specs.declared.role.Pick.{Pick}
 use Rattle.gl_match.specs.Listing.{Instance}
 use Rattle.gl_base.specs.Reports.{line}
 use Rattle.gl_base.specs.RoundReports.{found_words}
-use Rattle.gl_report.proofs.PartLaws.{front_stays}
+use Rattle.gl_card.proofs.PrintLaws.{front_stays}
 use Rattle.gl_report.proofs.ListLaws.{pair_turn, pair_all}
 use Rattle.gl_report.proofs.cells.put_instances.Goals as goal
 

@@ -6,7 +6,8 @@ use Rattle.gl_base.specs.Reports.{name_at}
 use Rattle.gl_base.specs.RoundReports.{card_name}
 use Rattle.gl_deck.specs.declared.body.Body.{Body}
 use Rattle.gl_deck.specs.Bodies.{body_value, bodies_value}
-use Rattle.gl_report.proofs.PartLaws.{parts_step, parts_all, front_stays}
+use Rattle.gl_card.proofs.PrintLaws.{front_stays}
+use Rattle.gl_report.proofs.PartLaws.{parts_step, parts_all}
 use Rattle.gl_report.proofs.parts.put_images.Goals as goal
 
 pub loop-card-preserved : goal.loop-card-preserved

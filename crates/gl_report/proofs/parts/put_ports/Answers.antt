@@ -1,8 +1,9 @@
-use Rattle.std.proofs.Common.{◌≡◌, ◌∙◌, [], ◌∷◌, ◌++◌, length, map, get_or, min, sym, ap, arith}
+use Rattle.std.proofs.Common.{◌∙◌, [], ◌∷◌, ◌++◌, length, map, min, sym, ap, arith}
 use Rattle.std.proofs.lemmas.List.{length_push, get_or-map, length-map}
 use Rattle.std.proofs.lemmas.Slice.Zip.{zip_turn, zip_end}
 use Rattle.gl_base.specs.Reports.{name_at}
-use Rattle.gl_report.proofs.PartLaws.{parts_step, parts_all, front_stays}
+use Rattle.gl_card.proofs.PrintLaws.{front_stays}
+use Rattle.gl_report.proofs.PartLaws.{parts_step, parts_all}
 use Rattle.gl_report.proofs.parts.put_ports.Goals as goal
 
 pub loop-port-preserved : goal.loop-port-preserved

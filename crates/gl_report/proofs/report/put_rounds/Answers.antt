@@ -1,8 +1,8 @@
-use Rattle.std.proofs.Common.{◌≡◌, ◌∙◌, ◌+◌, ◌++◌, List, ℕ, sym, ap, arith}
+use Rattle.std.proofs.Common.{◌∙◌, ◌+◌, ◌++◌, List, ℕ, sym, ap, arith}
 use Rattle.gl_base.specs.RoundReports.{round_lines}
 use Rattle.gl_report.specs.Shown.{shown_part}
 use Rattle.gl_report.specs.Pieces.{round_text}
-use Rattle.gl_report.proofs.PartLaws.{front_stays}
+use Rattle.gl_card.proofs.PrintLaws.{front_stays}
 use Rattle.gl_report.proofs.ListLaws.{numbered_turn, numbered_all, again}
 use Rattle.gl_report.proofs.report.put_rounds.Goals as goal
 

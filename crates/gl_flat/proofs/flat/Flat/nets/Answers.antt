@@ -1,4 +1,4 @@
-use Rattle.std.proofs.Common.{ap, ◌∙◌}
+use Rattle.std.proofs.Common.{ap}
 use Rattle.gl_text.specs.Flattening.{Flat}
 use Rattle.gl_flat.proofs.FlatKept.{seen_nets}
 use Rattle.gl_flat.proofs.flat.Flat.nets.Goals as goal

@@ -1,4 +1,4 @@
-use Rattle.std.proofs.Common.{◌≡◌, ◌<◌, ◌^◌, ◌∙◌, ℕ, List, length, sym, ap, subst}
+use Rattle.std.proofs.Common.{◌<◌, ◌^◌, ◌∙◌, ℕ, List, length, sym, ap, subst}
 use Rattle.gl_text.specs.Decks.{once}
 use Rattle.gl_flat.specs.SeenNames.{Seen, net_names}
 use Rattle.gl_flat.proofs.seen.Seen.into_names.Goals as goal

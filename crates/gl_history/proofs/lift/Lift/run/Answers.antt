@@ -36,10 +36,10 @@ loop-level-preserved c =
 
 pub returns-clause-reached : goal.returns-clause-reached
 returns-clause-reached c =
-    let all : c.loop-level.level ≡ rounds_of c.args.cells.now = omega (arith, c.rounds_of-level-end.ensures.rounds) in
+    let all : c.loop-level.level ≡ rounds_of c.args.cells.now = omega (arith, c.count_rounds-level-end.ensures.rounds) in
     subst (λ n. Reached c.args.base c.args.cells.now n c.loop-level.lifted) all c.loop-level.invariant.reached
 
 pub returns-clause-history : goal.returns-clause-history
 returns-clause-history c = λ run first are.
-    let all : c.loop-level.level ≡ rounds_of c.args.cells.now = omega (arith, c.rounds_of-level-end.ensures.rounds) in
+    let all : c.loop-level.level ≡ rounds_of c.args.cells.now = omega (arith, c.count_rounds-level-end.ensures.rounds) in
     history_shown run c.args.cells.now c.args.base c.loop-level.lifted first are (subst (λ n. Reached c.args.base c.args.cells.now n c.loop-level.lifted) all c.loop-level.invariant.reached)
