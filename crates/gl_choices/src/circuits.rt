@@ -1,8 +1,8 @@
 //! Refusals and answers of circuits and patterns, against values worked out by hand.
 ghost use Rattle.std.specs.Prelude.{◌≡◌, IfOk};
 
-use crate::made::{M, R, devices_of, nets_of, shapes_of};
 use gl_graph::{Circuit, DevId, NetId, Pattern, Role, TypeId};
+use gl_listings::made::{M, R, devices_of, nets_of, shapes_of};
 use std::alloc::Global;
 use std::process::Abort;
 use std::test::Fail;

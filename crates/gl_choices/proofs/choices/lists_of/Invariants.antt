@@ -1,7 +1,7 @@
 use Rattle.std.proofs.Common.{◌≤◌, ◌*◌, ◌<◌, All, List, length}
 use Rattle.std.specs.List.{sum_by}
 use Rattle.gl_match.specs.Listing.{Instance}
-use Rattle.gl_trials.proofs.choices.lists_of.Given as goal
+use Rattle.gl_choices.proofs.choices.lists_of.Given as goal
 
 abbrev pub invariant-loop-sets : goal.invariant-loop-sets
 invariant-loop-sets g l = record {

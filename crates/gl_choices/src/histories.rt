@@ -2,10 +2,10 @@
 ghost use Rattle.std.specs.Prelude.{IfOk};
 ghost use Rattle.gl_graph.specs.FitCells.{IsForCircuit};
 
-use crate::made::{devices_of, shapes_of};
 use gl_graph::{Circuit, NetId, Pattern, Role, TypeId};
 use gl_history::{Cell, Lift, Lifted, Origin};
 use gl_legal::fits;
+use gl_listings::made::{devices_of, shapes_of};
 use std::alloc::Global;
 use std::fmt::Write;
 use std::process::Abort;

@@ -1,6 +1,6 @@
 use Rattle.std.proofs.Common.{◌≡◌, ◌≤◌, ◌<◌, All, length}
 use Rattle.gl_match.specs.Listing.{Instance}
-use Rattle.gl_trials.proofs.choices.list_of.Given as goal
+use Rattle.gl_choices.proofs.choices.list_of.Given as goal
 
 abbrev pub invariant-loop-set : goal.invariant-loop-set
 invariant-loop-set g l = record {
