@@ -1,0 +1,2 @@
+pub mod ZipLaws
+pub mod FoundLaws
