@@ -1,0 +1,4 @@
+pub mod FirstLaws
+pub mod SetLaws
+pub mod RowLaws
+pub mod WalkLaws
