@@ -9,6 +9,7 @@ mod print;
 mod read;
 mod row;
 mod rows;
+mod said;
 mod tables;
 mod words;
 
@@ -17,3 +18,4 @@ pub use gl_line::{Memory, Name};
 pub use laws::read_maps_have_names;
 pub use name_map::NameMap;
 pub use naming::{put_device_name, put_instance_name, put_net_name, put_variant_name};
+pub use said::map_parts;

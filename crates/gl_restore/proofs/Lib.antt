@@ -6,3 +6,4 @@ pub mod TextLaws
 pub mod AnswerLaws
 pub mod MergeLaws
 pub mod OldLaws
+pub mod FrameLaws

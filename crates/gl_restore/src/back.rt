@@ -76,7 +76,7 @@ fn push_back<'a>(
 }
 
 /// The devices of lines under their old names, in the order of the lines.
-pub fn backs_of<'a>(
+pub fn collect_backs<'a>(
     alloc: Global,
     devices: &Devices<'a>,
     lines: &'a [(Name, Name)],

@@ -13,7 +13,7 @@ use crate::{Flat, Memory, Name};
 use gl_deck::{Head, put, put_all_passed, put_ends, put_globals, put_head, put_models, put_text};
 
 /// The name of a net, by its number; empty where there is none.
-fn net_name<'a>(nets: &[&'a Name], number: u32) -> &'a [u8]
+pub fn net_name<'a>(nets: &[&'a Name], number: u32) -> &'a [u8]
     ensures name { result.now ≡ name_at (map (λ n. n.now) nets.now) number }
 {
     match nets.get(number as usize) {

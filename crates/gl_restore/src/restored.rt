@@ -1,22 +1,28 @@
-ghost use Rattle.std.specs.Prelude.{◌≡◌, ◌+◌, ◌<◌, ◌^◌, ◌++◌, None, OnOk, OnErr, IfOk, IfErr, is_ok, length, map, take, if◌then◌else◌};
+ghost use Rattle.std.specs.Prelude.{◌≡◌, ◌+◌, ◌<◌, ◌^◌, ◌++◌, None, OnOk, OnErr, IfOk, IfErr, is_ok, length, map, nat_lt, take, if◌then◌else◌};
+ghost use Rattle.gl_text.specs.LogicalLines.{FILE};
 ghost use Rattle.gl_text.specs.Flattening.{flat_text};
 ghost use Rattle.gl_lifting.specs.Renaming as renaming;
 ghost use Rattle.gl_lifting.specs.Renaming.{old_name};
 ghost use Rattle.gl_restore.specs.Refusals.{Gives, GivesOf, IsFaultIn};
 ghost use Rattle.gl_restore.specs.Backs.{kept_name, line_fault, name_fault};
+ghost use Rattle.gl_restore.specs.TooLong.{GivesText, text_within};
 
-use crate::back::{Back, backs_of};
+use crate::back::{Back, collect_backs};
 use crate::devices::Devices;
+use crate::length::add_devices;
 use crate::lines::Lines;
 use crate::print::put_deck;
 use crate::refused::{
     old_nets, refuse_device_merges, refuse_extra_devices, refuse_extra_nets, refuse_letters,
     refuse_missing, refuse_net_merges,
 };
-use crate::{Flat, Memory, Name, NameMap, RestoreFault};
+use crate::{Flat, Memory, Name, NameMap, RestoreFault, TextFault};
 use gl_flat::{KeptDevice, Names};
 use std::alloc::Global;
 use std::marker::Model;
+
+/// The most bytes of a restored deck's text.
+const TEXT: usize = 67_108_864;
 
 /// A flat deck under the old names of a map. Contracts see it as a flat deck.
 #[derive(Drop)]
@@ -88,6 +94,16 @@ fn put_restored(out: &mut Vec<u8>, restored: &Restored<'_>) -> Result<(), Memory
     Ok(())
 }
 
+/// The text of a flat deck under its old names would be longer than a file may be. All but the lines of its devices, which
+/// the deck before had too, is built and thrown away.
+fn is_too_long(alloc: Global, restored: &Restored<'_>) -> Result<bool, Memory>
+    ensures long { IfOk result (λ long. long ≡ nat_lt FILE (length (flat_text restored.now))) }
+{
+    let mut frame = Vec::new(alloc);
+    put_deck(&mut frame, restored.flat, &restored.nets, &[])?;
+    Ok(add_devices(frame.as_slice().len(), &restored.nets, &restored.devices) > TEXT)
+}
+
 impl<'a> Restored<'a> {
     /// The devices and nets of a flat deck under the old names of a map, the devices in the map's order, or the first refusal.
     /// Title, rails, models, the top's head and passed cards stay. The time goes by the devices, the nets and the lines.
@@ -102,7 +118,7 @@ impl<'a> Restored<'a> {
         let olds = named_nets(alloc, flat.devices(), flat.nets().items(), names)?;
         let kept = Devices::of(alloc, flat.devices())?;
         refuse_lines(alloc, &kept, flat.nets(), names)?;
-        let backs = backs_of(alloc, &kept, names.devices())?;
+        let backs = collect_backs(alloc, &kept, names.devices())?;
         Ok(Restored {
             flat,
             nets: olds,
@@ -121,6 +137,18 @@ impl<'a> Restored<'a> {
             return Err(Memory);
         }
         Ok(())
+    }
+
+    /// The text of the flat deck, or that it is longer than a file may be: that is counted first, and nothing so long is built.
+    pub fn text(&self, alloc: Global) -> Result<Vec<u8>, TextFault>
+        ensures text { GivesText result (text_within self.now) }
+    {
+        if is_too_long(alloc, self)? {
+            return Err(TextFault::RestoredText);
+        }
+        let mut text = Vec::new(alloc);
+        self.print(&mut text)?;
+        Ok(text)
     }
 }
 

@@ -1,6 +1,6 @@
 //! What is said of refusals of restoring.
 ghost use Rattle.std.specs.Prelude.{◌≡◌};
-ghost use Rattle.gl_said.specs.Texts.{parts_text, told_text};
+ghost use Rattle.gl_said.specs.Texts.{parts_text, text_if_any};
 ghost use Rattle.gl_restore.specs.Refusals.{fault_of};
 ghost use Rattle.gl_restore.specs.Texts.{fault_text};
 
@@ -9,7 +9,7 @@ use gl_said::{Parts, name as behind, nothing, one};
 
 /// What is said of a refusal of restoring; nothing of want of memory.
 pub fn restore_parts<'a>(fault: &'a RestoreFault) -> Parts<'a>
-    ensures text { parts_text result ≡ told_text fault_text (fault_of fault.now) }
+    ensures text { parts_text result ≡ text_if_any fault_text (fault_of fault.now) }
 {
     match fault {
         RestoreFault::Missing { name } => behind("44 Missing name=", name.as_bytes()),

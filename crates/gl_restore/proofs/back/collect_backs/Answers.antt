@@ -2,7 +2,7 @@ use Rattle.std.proofs.Common.{◌∙◌, ◌++◌, ap, sym}
 use Rattle.std.specs.Prelude.{option_to_list}
 use Rattle.gl_restore.specs.Backs.{back_of}
 use Rattle.gl_restore.proofs.BackLaws.{back_more}
-use Rattle.gl_restore.proofs.back.backs_of.Goals as goal
+use Rattle.gl_restore.proofs.back.collect_backs.Goals as goal
 
 pub loop-line-preserved : goal.loop-line-preserved
 loop-line-preserved c =
