@@ -1,5 +1,5 @@
 -- What a flat deck has of its deck.
-use Rattle.std.proofs.Common.{◌≡◌, ◌+◌, ℕ, List, ◌∷◌, ◌++◌, length, map, ltb, Option, None, Ok, sym, ap, ◌∙◌, flat_map, codes}
+use Rattle.std.proofs.Common.{◌≡◌, ◌+◌, ℕ, List, ◌∷◌, ◌++◌, length, map, ltb, Option, Ok, sym, ap, ◌∙◌, flat_map, codes}
 use Rattle.gl_text.specs.LogicalLines.{NAME, long_flat_name, long_text}
 use Rattle.gl_fault.specs.Refusals.{first_some, when, or_else, ◌>>=◌}
 use Rattle.gl_text.specs.Cards.{Head, Model}
@@ -7,7 +7,7 @@ use Rattle.gl_text.specs.Decks.{Deck}
 use Rattle.gl_text.specs.Flattening.{DEPTH, TEXT, FlatDevice, Flat, net, top_net, top_ports, top_place, flat_devices, bearers, bearer_name, first_clash, chosen, flat_text, flatten}
 use Rattle.gl_lift.specs.FlatParts.{IsFlatOf}
 use Rattle.gl_fault.proofs.FirstLaws.{or_else_ok, bind_ok}
-use Rattle.gl_printed.proofs.FlatAlike.{Chosen, choice, behind_chosen, faults_flat, finish_flat, flatten_is}
+use Rattle.gl_printed.proofs.FlatAlike.{behind_chosen, faults_flat, finish_flat, flatten_is}
 
 finished : (title : List ℕ) (rails : List (List ℕ)) (models : List Model) (passed : List (List ℕ)) (head : Option Head) (devices : List FlatDevice) (flat : Flat) → finish_flat title rails models passed head devices ≡ Ok flat
     → record { title = title; rails = rails; models = models; top = head; devices = devices; passed = passed } ≡ flat

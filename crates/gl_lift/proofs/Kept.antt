@@ -1,6 +1,6 @@
 -- What it means that a kept name is unknown, or none is, of the flat deck that is lifted.
 use Rattle.std.proofs.Common.{◌≡◌, ℕ, List, Option, None, Some, ap, ◌∙◌}
-use Rattle.std.specs.Prelude.{Result, Ok, Err}
+use Rattle.std.specs.Prelude.{Result, Ok}
 use Rattle.std.specs.Option.{option_map}
 use Rattle.gl_fault.specs.Refusals.{IsRefusal, IsFound, or_else}
 use Rattle.gl_text.specs.LogicalLines.{Fault}

@@ -5,3 +5,4 @@ pub mod ReadFiles
 pub mod Plain
 pub mod Headline
 pub mod Kept
+pub mod WrittenLaws

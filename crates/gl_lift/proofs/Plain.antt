@@ -1,5 +1,6 @@
--- A flat deck with its devices at the top has the same source, names and report.
+-- A flat deck with its devices at the top has the same source, names and texts.
 use Rattle.std.proofs.Common.{◌≡◌, ◌++◌, ◌∷◌, [], ℕ, List, map, refl, ap, ◌∙◌, subst}
+use Rattle.std.specs.Prelude.{zip, flat_map}
 use Rattle.gl_text.specs.Cards.{Device}
 use Rattle.gl_text.specs.Flattening.{Flat, FlatDevice, flat_card, device_name, top_ports}
 use Rattle.gl_base.specs.Rails.{all_rails}
@@ -11,7 +12,13 @@ use Rattle.gl_base.specs.Keeping.{keeping, unknown_keep}
 use Rattle.gl_lifting.specs.Runs.{Run, run_of}
 use Rattle.gl_lifting.specs.Histories.{History, IsHistory, AreRounds}
 use Rattle.gl_lifting.specs.HistoryReports.{rounds_report, left_in}
-use Rattle.gl_lift.specs.Lifting.{AreComplete, AreChoice, AreApart, IsLiftReport}
+use Rattle.gl_lifting.specs.Variants.{variants_of, variant_names}
+use Rattle.gl_lifting.specs.LiftedDecks.{variant_sub, slot_card, top_name}
+use Rattle.gl_lifting.specs.NameMaps.{all_located, devices_renamed, nets_renamed, renamed_by, map_text}
+use Rattle.gl_lifting.specs.LiftJobs.{Texts}
+use Rattle.gl_printed.specs.FlatDecks.{subs_around, top_without}
+use Rattle.gl_text.specs.Decks.{deck_text}
+use Rattle.gl_lift.specs.Lifting.{AreComplete, AreChoice, AreApart, AreLiftTexts}
 use Rattle.gl_flat.specs.PlainFlats.{plain_device, plain}
 use Rattle.gl_flat.proofs.PlainLaws.{plain_cards}
 use Rattle.gl_lib.specs.Sources.{cells_in}
@@ -46,10 +53,32 @@ same_unknown keep f library = ap (unknown_keep keep) (same_source f library)
 same_run : (keep : List (List ℕ)) (f : Flat) (library : Library) → run_of (plain f) library keep ≡ run_of f library keep
 same_run keep f library = ap (λ (s : Source). record { source = keeping keep s; library = library }) (same_source f library)
 
-pub plain_report : (keep : List (List ℕ)) (f : Flat) (library : Library) (text : List ℕ) → IsLiftReport keep library (plain f) text → IsLiftReport keep library f text
-unfolding names_with text_with
-plain_report keep f library text h =
+-- the lifted deck of a history with these cards
+deck_with : List ℕ → Flat → List Device → Source → History → List ℕ
+deck_with stem f cards s h =
+    let vs = variants_of cards h.last.composites in
+    let names = variant_names (top_name f) vs.different in
+    let bodies = map (slot_card stem cards names vs.numbers) h.last.slots in deck_text (record {
+      title = f.title;
+      globals = f.rails;
+      models = f.models;
+      subs = map (variant_sub s names) (zip names vs.different) ++ subs_around f.top bodies;
+      top = top_without f.top bodies;
+      passed = f.passed;
+    })
+
+-- the map of names of a history with these cards
+map_with : List ℕ → List Device → Source → History → List ℕ
+map_with stem cards s h = let all = all_located stem h in map_text (record {
+  devices = renamed_by (flat_map devices_renamed all) (map (λ (c : Device). c.name) cards);
+  nets = renamed_by (flat_map (nets_renamed s) all) (nets_of cards);
+})
+
+pub plain_texts : (keep : List (List ℕ)) (f : Flat) (library : Library) (texts : Texts) → AreLiftTexts keep library (plain f) texts → AreLiftTexts keep library f texts
+unfolding names_with text_with deck_with map_with
+plain_texts keep f library texts h =
     let run = same_run keep f library in
+    let source = (run_of f library keep).source in
     record {
       history = h.history;
       history_is = subst (λ (r : Run). IsHistory r h.history) run h.history_is;
@@ -58,7 +87,13 @@ plain_report keep f library text h =
       apart = subst (λ (r : Run). AreRounds AreApart r h.history) run h.apart;
       stem = h.stem;
       stem_is = subst (λ (cards : List Device). IsStem (names_with f cards) h.stem) (plain_cards f) h.stem_is;
-      text_is = h.text_is
+      lifted_is = h.lifted_is
+          ∙ ap (λ (r : Run). deck_with h.stem f (cards_of (plain f)) r.source h.history) run
+          ∙ ap (λ (cards : List Device). deck_with h.stem f cards source h.history) (plain_cards f);
+      map_is = h.map_is
+          ∙ ap (λ (r : Run). map_with h.stem (cards_of (plain f)) r.source h.history) run
+          ∙ ap (λ (cards : List Device). map_with h.stem cards source h.history) (plain_cards f);
+      report_is = h.report_is
           ∙ ap (λ (ds : List (List ℕ)). text_with h.stem library h.history ds (cards_of (plain f))) (same_names f.devices)
           ∙ ap (text_with h.stem library h.history (map device_name f.devices)) (plain_cards f);
     }

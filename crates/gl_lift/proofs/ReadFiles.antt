@@ -1,7 +1,5 @@
 -- What was read from files is lifted and searched.
-use Rattle.std.proofs.Common.{◌≡◌, ◌≤◌, ℕ, List, length, true, Option, Some, None, Result, Ok, Err, ap, ◌∙◌, arith}
-use Rattle.gl_fault.proofs.FirstLaws.{or_else_ok}
-use Rattle.std.specs.Prelude.{option_map}
+use Rattle.std.proofs.Common.{◌≡◌, ◌≤◌, ℕ, List, length, true, Ok, ap, ◌∙◌, arith}
 use Rattle.std.proofs.lemmas.List.{length-map}
 use Rattle.gl_text.specs.LogicalLines.{FILE}
 use Rattle.gl_text.specs.Decks.{Deck, read_deck}

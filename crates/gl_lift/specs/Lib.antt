@@ -1,4 +1,5 @@
 pub mod Lifting
+pub mod Written
 pub mod LiftedRuns
 pub mod FlatParts
 pub mod Liftable

@@ -1,9 +1,9 @@
--- What the job `lift` writes of a deck and a library with a top or none and with kept names: the report of all rounds. This project's own.
+-- What the job `lift` writes of a deck and a library with a top or none and with kept names: the lifted deck, the map of names and the report of all rounds. This project's own.
 use Rattle.std.specs.Prelude.{◌≡◌, ℕ, List, Option, Result, Ok, Err, option_map}
 use Rattle.std.specs.List.{AllZip}
 use Rattle.gl_fault.specs.Refusals.{or_else}
 use Rattle.gl_text.specs.LogicalLines.{Fault}
-use Rattle.gl_text.specs.Decks.{Deck}
+use Rattle.gl_text.specs.Decks.{Deck, deck_text}
 use Rattle.gl_text.specs.Flattening.{Flat, flatten}
 use Rattle.gl_match.specs.declared.role.Pick.{Pick}
 use Rattle.gl_match.specs.Graph.{Circuit, Pattern}
@@ -17,6 +17,9 @@ use Rattle.gl_base.specs.Rounds.{source_of}
 use Rattle.gl_lifting.specs.Runs.{Run, run_of}
 use Rattle.gl_lifting.specs.Histories.{History, IsHistory, AreRounds}
 use Rattle.gl_lifting.specs.HistoryReports.{history_report}
+use Rattle.gl_lifting.specs.LiftedDecks.{lifted_deck}
+use Rattle.gl_lifting.specs.NameMaps.{map_of, map_text}
+use Rattle.gl_lifting.specs.LiftJobs.{Texts}
 
 -- ---- what is lifted
 
@@ -54,8 +57,8 @@ AreApart c first patterns lists picks = (i j k l : ℕ) → IsChosen (joined pic
 
 -- ---- what is written
 
--- the text is the report of the history of a run: in each of its rounds lists are complete, picks are the choice, and no two chosen instances have a device in common
-pub record IsReport (run : Run) (flat : Flat) (text : List ℕ) : Type 0 where
+-- the texts are told from the history of a run: in each of its rounds lists are complete, picks are the choice, and no two chosen instances have a device in common
+pub record AreTextsOf (run : Run) (flat : Flat) (texts : Texts) : Type 0 where
   pub history : History
   pub history_is : IsHistory run history
   pub complete : AreRounds AreComplete run history
@@ -63,8 +66,10 @@ pub record IsReport (run : Run) (flat : Flat) (text : List ℕ) : Type 0 where
   pub apart : AreRounds AreApart run history
   pub stem : List ℕ
   pub stem_is : IsStem (names_in flat) stem
-  pub text_is : text ≡ history_report stem flat run.library history
+  pub lifted_is : texts.lifted ≡ deck_text (lifted_deck stem flat run.source history)
+  pub map_is : texts.map ≡ map_text (map_of stem flat run.source history)
+  pub report_is : texts.report ≡ history_report stem flat run.library history
 
--- the text is the report of a flat deck, in whose circuit the nets of these names are kept
-abbrev pub IsLiftReport : List (List ℕ) → Library → Flat → List ℕ → Type 0
-IsLiftReport keep library flat text = IsReport (run_of flat library keep) flat text
+-- the texts are those of a flat deck, in whose circuit the nets of these names are kept
+abbrev pub AreLiftTexts : List (List ℕ) → Library → Flat → Texts → Type 0
+AreLiftTexts keep library flat texts = AreTextsOf (run_of flat library keep) flat texts

@@ -1,5 +1,5 @@
 -- What a refusal of the code means, and what lifting gives.
-use Rattle.std.specs.Prelude.{ℕ, List, Option, Result}
+use Rattle.std.specs.Prelude.{Option, Result}
 use Rattle.std.specs.Option.{option_map}
 use Rattle.gl_fault.specs.Refusals as answers
 use Rattle.gl_text.specs.Flattening.{Flat}

@@ -8,11 +8,16 @@ ghost use Rattle.gl_base.specs.Rails.{run_rails};
 ghost use Rattle.gl_base.specs.Libraries.{Library, read_library};
 ghost use Rattle.gl_base.specs.Keeping.{unknown_keep};
 ghost use Rattle.gl_base.specs.Rounds.{source_of};
-ghost use Rattle.gl_lift.specs.Lifting.{IsLiftReport};
+ghost use Rattle.gl_lifting.specs.LiftJobs.{Texts as TextsValue};
+ghost use Rattle.gl_lifting.specs.Lifted.{Options, IsLifted, IsRestored};
+ghost use Rattle.gl_lift.specs.Lifting.{AreLiftTexts};
+ghost use Rattle.gl_lift.specs.Written.{IsWritten};
 ghost use Rattle.gl_flat.specs.PlainFlats.{plain};
 ghost use Rattle.gl_cells.specs.KnownLibraries.{IsKnownLibrary};
 ghost use Rattle.gl_lib.specs.Sources.{AreSound};
 ghost use Rattle.gl_lift.specs.Liftable.{IsLiftable, IsSearchable};
+
+use gl_lifting::what_is_lifted_can_be_restored;
 
 /// A deck that was read is lifted, and a library that was read is searched.
 pub fn read_values_are_lifted()
@@ -36,11 +41,22 @@ pub fn flat_decks_are_sound()
         → AreSound (plain flat) library }
 {}
 
-/// The report of a flat deck with its devices at the top is that of the flat deck, whatever names are kept, and so is the
+/// The texts of a flat deck with its devices at the top are those of the flat deck, whatever names are kept, and so is the
 /// first of these that is unknown.
-pub fn plain_reports_are_reports()
-    ensures report { (keep : List (List ℕ)) (flat : Flat) (library : Library) (text : List ℕ)
-        → IsLiftReport keep library (plain flat) text → IsLiftReport keep library flat text }
+pub fn plain_texts_are_texts()
+    ensures texts { (keep : List (List ℕ)) (flat : Flat) (library : Library) (texts : TextsValue)
+        → AreLiftTexts keep library (plain flat) texts → AreLiftTexts keep library flat texts }
     ensures unknown { (keep : List (List ℕ)) (flat : Flat) (library : Library)
         → unknown_keep keep (source_of (plain flat) library) ≡ unknown_keep keep (source_of flat library) }
 {}
+
+/// The lift theorem of what is written: the texts of a deck and a library that were read are what was lifted, where they pass no
+/// limit; so the lifted deck and the map lead back to the flat deck.
+pub fn texts_lead_back()
+    ensures lifted { (deck_bytes library_bytes : List ℕ) (o : Options) (texts : TextsValue)
+        → (is : IsWritten deck_bytes library_bytes o texts) → IsLifted deck_bytes library_bytes o texts.lifted texts.map texts.report }
+    ensures restored { (deck_bytes library_bytes : List ℕ) (o : Options) (texts : TextsValue)
+        → (is : IsWritten deck_bytes library_bytes o texts) → IsRestored o.top texts.lifted texts.map is.flat }
+{
+    what_is_lifted_can_be_restored();
+}

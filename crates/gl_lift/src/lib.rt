@@ -1,15 +1,18 @@
-//! From a deck and a library to the report: the deck flattened, its circuit, all rounds, and the text.
+//! From a deck and a library to the lifted deck, the map of names and the report: the deck flattened, its circuit, all rounds, and the texts.
 #![tactic(auto)]
 
 mod fault;
 mod laws;
-mod report;
+mod lift;
+mod texts;
 
 pub use fault::LiftFault;
 pub use gl_cells::{Deck, LibFault, Library};
 pub use gl_flat::FlatFault;
 pub use gl_lib::KeepFault;
 pub use laws::{
-    flat_decks_are_sound, plain_reports_are_reports, read_files_are_lifted, read_values_are_lifted,
+    flat_decks_are_sound, plain_texts_are_texts, read_files_are_lifted, read_values_are_lifted,
+    texts_lead_back,
 };
-pub use report::report_of;
+pub use lift::texts_of;
+pub use texts::Texts;
