@@ -1,16 +1,21 @@
 -- What the whole run claims, from how its job ended.
-use Rattle.std.proofs.Common.{◌≡◌, ◌≢◌, ◌⊎◌, ◌<◌, ℕ, List, [], ◌∷◌, Option, None, Some, true, false, refl, ap, sym, ◌∙◌, subst, inl, inr}
+use Rattle.std.proofs.Common.{◌≡◌, ◌≢◌, ◌⊎◌, ℕ, List, [], Option, None, true, false, refl, ap, sym, ◌∙◌, subst, inl, inr}
 use Rattle.gl_desk.specs.declared.slot.Slot.{Slot}
 use Rattle.gl_desk.specs.declared.slot.Slot.TheVariants.{Says}
-use Rattle.gl_desk.specs.Desk.{View, IsInput, IsOutput, IsFresh, OthersSame}
+use Rattle.gl_desk.specs.Desk.{View, IsInput, IsOutput, OthersSame}
 use Rattle.gl_desk.specs.Desk.{is_input}
 use Rattle.gl_job.specs.declared.kind.Kind.TheVariants as kinds
 use Rattle.gl_job.specs.Texts.{End, kind_status, status_of, line_of, ended, Speaks, GivesOrFails}
-use Rattle.gl_job.proofs.Points.{told_parts}
+use Rattle.gl_job.proofs.Points.{refusal_parts}
 use Rattle.gl_deck.specs.Refusals as decks
 use Rattle.gl_cells.specs.Causes.{cause_of}
 use Rattle.gl_flat.specs.Refusals as flats
 use Rattle.gl_lift.specs.Refusals as lifts
+use Rattle.gl_map.specs.Refusals as maps
+use Rattle.gl_map.specs.Texts as map_texts
+use Rattle.gl_restore.specs.Refusals as names
+use Rattle.gl_restore.specs.Texts as name_texts
+use Rattle.gl_restore.specs.TooLong.{limit_of}
 use Rattle.gl_deck.specs.Texts.{fault_text}
 use Rattle.gl_cells.specs.Texts.{cell_text}
 use Rattle.gl_run.specs.declared.ending.Ending.{Ending}
@@ -22,7 +27,7 @@ use Rattle.gl_job.specs.Courses.{Course, Ends}
 use Rattle.gl_job.specs.Claims.{IsDone, IsComplete, IsStatus, IsProper}
 use Rattle.gl_job.proofs.Laws.{done_of, complete_of, unused_of, closed_of}
 use Rattle.gl_job.proofs.Same.{ends_same}
-use Rattle.gl_job.proofs.Seen.{long_of, failed_of}
+use Rattle.gl_job.proofs.Signs.{long_of, failed_of}
 use Rattle.gl_words.specs.Jobs.{Job}
 use Rattle.gl_run.specs.Jobs.{course_of, lift_text}
 use Rattle.gl_run.specs.Claims.{IsEnding, IsLongSaid, IsFailedSaid, AreClosed, AreLeft}
@@ -66,10 +71,13 @@ whole_ending shows holds wants old mid new job end status is ends quiet others s
 pub end_parts : (ending : Ending) → is_done ending ≡ false → ended (kind_of ending) (text_of ending) ≡ end_of ending
 end_parts endings.Done undone = absurd cc
 end_parts endings.Words undone = refl
-end_parts (endings.Deck fault) undone = told_parts kinds.Deck fault_text (decks.fault_of fault)
-end_parts (endings.Library fault) undone = told_parts kinds.Library cell_text (cause_of fault)
-end_parts (endings.Flat fault) undone = told_parts kinds.Deck fault_text (flats.fault_of fault)
-end_parts (endings.Lift fault) undone = told_parts kinds.Deck lift_text (lifts.cause_of fault)
+end_parts (endings.Deck fault) undone = refusal_parts kinds.Deck fault_text (decks.fault_of fault)
+end_parts (endings.Library fault) undone = refusal_parts kinds.Library cell_text (cause_of fault)
+end_parts (endings.Flat fault) undone = refusal_parts kinds.Deck fault_text (flats.fault_of fault)
+end_parts (endings.Lift fault) undone = refusal_parts kinds.Deck lift_text (lifts.cause_of fault)
+end_parts (endings.Map fault) undone = refusal_parts kinds.Map map_texts.fault_text (maps.fault_of fault)
+end_parts (endings.Names fault) undone = refusal_parts kinds.Map name_texts.fault_text (names.fault_of fault)
+end_parts (endings.Text fault) undone = refusal_parts kinds.Limit name_texts.limit_text (limit_of fault)
 end_parts (endings.Stopped stop) undone = refl
 
 pub open_status : (ending : Ending) → is_done ending ≡ false → kind_status (kind_of ending) ≡ status_of (end_of ending)
@@ -87,6 +95,9 @@ done_speaks (endings.Deck fault) view h = absurd cc
 done_speaks (endings.Library fault) view h = absurd cc
 done_speaks (endings.Flat fault) view h = absurd cc
 done_speaks (endings.Lift fault) view h = absurd cc
+done_speaks (endings.Map fault) view h = absurd cc
+done_speaks (endings.Names fault) view h = absurd cc
+done_speaks (endings.Text fault) view h = absurd cc
 done_speaks (endings.Stopped stop) view h = absurd cc
 
 pub done_status : (ending : Ending) → is_done ending ≡ true → 0 ≡ status_of (end_of ending)
@@ -96,6 +107,9 @@ done_status (endings.Deck fault) h = absurd cc
 done_status (endings.Library fault) h = absurd cc
 done_status (endings.Flat fault) h = absurd cc
 done_status (endings.Lift fault) h = absurd cc
+done_status (endings.Map fault) h = absurd cc
+done_status (endings.Names fault) h = absurd cc
+done_status (endings.Text fault) h = absurd cc
 done_status (endings.Stopped stop) h = absurd cc
 
 -- ---- the claims

@@ -4,3 +4,4 @@ pub mod Courses
 pub mod Finishing
 pub mod Answering
 pub mod Wordless
+pub mod Renaming

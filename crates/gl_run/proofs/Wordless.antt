@@ -1,8 +1,10 @@
 -- A job that is not refused for its words never has their status.
-use Rattle.std.proofs.Common.{◌≡◌, ◌≢◌, ◌≤◌, ℕ, List, [], ◌∷◌, Option, None, Some, true, refl, ap, sym, ◌∙◌, inl, inr, arith}
+use Rattle.std.proofs.Common.{◌≡◌, ◌≤◌, ℕ, List, [], ◌∷◌, Option, None, Some, true, refl, ap, inl, inr, arith}
 use Rattle.std.specs.Prelude.{Result, Ok, Err}
 use Rattle.gl_text.specs.Decks.{read_deck}
-use Rattle.gl_text.specs.Flattening.{flat_job}
+use Rattle.gl_text.specs.Flattening.{flat_of, flat_job}
+use Rattle.gl_lifting.specs.MapReading.{read_map}
+use Rattle.gl_lifting.specs.Renaming.{restore as restored_flat}
 use Rattle.gl_lift.specs.Lifting.{lifted_flat}
 use Rattle.gl_desk.specs.declared.slot.Slot.{Slot}
 use Rattle.gl_base.specs.Libraries.{read_library}
@@ -13,10 +15,13 @@ use Rattle.gl_job.specs.declared.stop.Stop.TheVariants as stops
 use Rattle.gl_job.specs.Texts.{End, kind_status, status_of, end_of_stop}
 use Rattle.gl_job.specs.Runs.{Run, Opening}
 use Rattle.gl_job.specs.Courses.{Course, refuse, read, may_stop, write, unless, Writes, Ends}
-use Rattle.gl_words.specs.Jobs.{Job, lift, flat, Request, FlatRequest}
+use Rattle.gl_words.specs.Jobs.{Job, lift, flat, restore, Request, FlatRequest, RestoreRequest}
 use Rattle.gl_deck.specs.Texts.{fault_text}
 use Rattle.gl_cells.specs.Texts.{cell_text}
-use Rattle.gl_run.specs.Jobs.{lift_text, flat_course, lift_course, course_of}
+use Rattle.gl_map.specs.Texts as maps
+use Rattle.gl_restore.specs.Texts as names
+use Rattle.gl_restore.specs.TooLong.{text_within}
+use Rattle.gl_run.specs.Jobs.{lift_text, flat_course, lift_course, restore_course, course_of}
 
 -- no refusal of the course is one of words
 abbrev pub IsWordless : Course → Type 0
@@ -68,8 +73,16 @@ lift_wordless r = λ d. wordless_unless kinds.Deck fault_text (read_deck true d)
     λ l. wordless_unless kinds.Library cell_text (read_library l) _ (omega arith) (λ library.
     wordless_unless kinds.Deck lift_text (lifted_flat r.top r.keep deck library) _ (omega arith) (λ flat. tt)))
 
+restore_wordless : (r : RestoreRequest) → IsWordless (restore_course r)
+unfolding restore_course
+restore_wordless r = λ d. wordless_unless kinds.Deck fault_text (flat_of r.top d) _ (omega arith) (λ flat.
+    λ m. wordless_unless kinds.Map maps.fault_text (read_map m) _ (omega arith) (λ map.
+    wordless_unless kinds.Map names.fault_text (restored_flat flat map) _ (omega arith) (λ restored.
+    wordless_unless kinds.Limit names.limit_text (text_within restored) _ (omega arith) (λ text. tt))))
+
 -- the status of words comes only where they name no job
 pub one_of_words : (job : Option Job) (end : End) (r : Run) → Ends [] (course_of job) end r → status_of end ≡ 1 → job ≡ None
 one_of_words None end r h one = refl
 one_of_words (Some (lift q)) end r h one = absurd (wordless [] (lift_course q) end r h (lift_wordless q) one)
 one_of_words (Some (flat q)) end r h one = absurd (wordless [] (flat_course q) end r h (flat_wordless q) one)
+one_of_words (Some (restore q)) end r h one = absurd (wordless [] (restore_course q) end r h (restore_wordless q) one)

@@ -1,3 +1,4 @@
 pub mod Jobs
 pub mod Endings
 pub mod Claims
+pub mod Restoring

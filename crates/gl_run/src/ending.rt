@@ -1,14 +1,14 @@
 //! How a run ends.
 ghost use Rattle.std.specs.Prelude.{◌≡◌, true};
 ghost use Rattle.gl_desk.specs.Desk.{OthersSame, NamesSame};
-ghost use Rattle.gl_job.specs.Points.{told_kind};
+ghost use Rattle.gl_job.specs.Points.{refusal_kind};
 ghost use Rattle.gl_job.specs.Texts.{status_of, line_of, Speaks};
-ghost use Rattle.gl_said.specs.Texts.{parts_text, told_text};
+ghost use Rattle.gl_said.specs.Texts.{parts_text, text_if_any};
 ghost use Rattle.gl_lift.specs.Refusals.{cause_of};
 ghost use Rattle.gl_run.specs.Jobs.{lift_text};
 ghost use Rattle.gl_run.specs.Endings.{end_of, kind_of, text_of, is_done};
 
-use crate::kinds::{deck_kind, flat_kind, keep_kind, library_kind};
+use crate::kinds::{deck_kind, flat_kind, keep_kind, library_kind, map_kind, name_kind, text_kind};
 use gl_cells::{LibFault, library_parts};
 use gl_deck::{DeckFault, deck_parts};
 use gl_desk::{Desk, Slot};
@@ -16,6 +16,8 @@ use gl_flat::{FlatFault, flat_parts};
 use gl_job::{Kind, Stop, say};
 use gl_lib::keep_parts;
 use gl_lift::LiftFault;
+use gl_map::{MapFault, map_parts};
+use gl_restore::{RestoreFault, TextFault, restore_parts, text_parts};
 use gl_said::{Parts, one_text};
 
 /// How a run ends. A fault is that of the layer that answered.
@@ -33,13 +35,19 @@ pub enum Ending {
     Flat(FlatFault),
     /// The deck is refused as it is flattened, or a kept name is unknown.
     Lift(LiftFault),
+    /// The map of names is refused as it is read.
+    Map(MapFault),
+    /// The map's names and those of the lifted deck do not go together.
+    Names(RestoreFault),
+    /// The restored deck is too long.
+    Text(TextFault),
     /// A slot, or want of memory, stops the run.
     Stopped(Stop),
 }
 
 /// Of which kind a refusal of `lift` is.
 fn lift_kind(fault: &LiftFault) -> Kind
-    ensures kind { result ≡ told_kind Kind.Deck (cause_of fault.now) }
+    ensures kind { result ≡ refusal_kind Kind.Deck (cause_of fault.now) }
 {
     match fault {
         LiftFault::Flat(fault) => flat_kind(Kind::Deck, fault),
@@ -49,7 +57,7 @@ fn lift_kind(fault: &LiftFault) -> Kind
 
 /// What is said of it.
 fn lift_parts<'a>(fault: &'a LiftFault) -> Parts<'a>
-    ensures text { parts_text result ≡ told_text lift_text (cause_of fault.now) }
+    ensures text { parts_text result ≡ text_if_any lift_text (cause_of fault.now) }
 {
     match fault {
         LiftFault::Flat(fault) => flat_parts(fault),
@@ -69,6 +77,9 @@ impl Ending {
             Ending::Library(_) => false,
             Ending::Flat(_) => false,
             Ending::Lift(_) => false,
+            Ending::Map(_) => false,
+            Ending::Names(_) => false,
+            Ending::Text(_) => false,
             Ending::Stopped(_) => false,
         }
     }
@@ -84,6 +95,9 @@ impl Ending {
             Ending::Library(fault) => library_kind(Kind::Library, fault),
             Ending::Flat(fault) => flat_kind(Kind::Deck, fault),
             Ending::Lift(fault) => lift_kind(fault),
+            Ending::Map(fault) => map_kind(Kind::Map, fault),
+            Ending::Names(fault) => name_kind(Kind::Map, fault),
+            Ending::Text(fault) => text_kind(Kind::Limit, fault),
             Ending::Stopped(stop) => stop.kind(),
         }
     }
@@ -99,6 +113,9 @@ impl Ending {
             Ending::Library(fault) => library_parts(fault),
             Ending::Flat(fault) => flat_parts(fault),
             Ending::Lift(fault) => lift_parts(fault),
+            Ending::Map(fault) => map_parts(fault),
+            Ending::Names(fault) => restore_parts(fault),
+            Ending::Text(fault) => text_parts(fault),
             Ending::Stopped(stop) => stop.parts(),
         }
     }

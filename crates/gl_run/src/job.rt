@@ -13,6 +13,7 @@ ghost use Rattle.gl_run.specs.Claims.{IsEnding, IsLongSaid, IsFailedSaid, AreClo
 use crate::ending::{Ending, say_ending};
 use crate::flat::do_flat;
 use crate::lift::do_lift;
+use crate::restore::do_restore;
 use gl_desk::{Desk, Slot};
 use gl_fault::Memory;
 use gl_job::Stop;
@@ -31,6 +32,7 @@ fn do_job<D: Desk>(alloc: Global, words: &[String], desk: &mut D) -> Ending
     match job_of(alloc, words) {
         Ok(Some(Job::Lift(lift))) => do_lift(alloc, desk, &lift),
         Ok(Some(Job::Flat(flat))) => do_flat(alloc, desk, &flat),
+        Ok(Some(Job::Restore(restore))) => do_restore(alloc, desk, &restore),
         Ok(None) => Ending::Words,
         Err(Memory) => Ending::Stopped(Stop::Memory),
     }

@@ -1,6 +1,7 @@
 //! The top call: what is written is the stated function of what is read, and each status has its cause.
 #![tactic(auto)]
 
+mod back;
 mod ending;
 mod flat;
 mod inputs;
@@ -8,6 +9,7 @@ mod job;
 mod kinds;
 mod laws;
 mod lift;
+mod restore;
 mod writing;
 
 pub use ending::Ending;

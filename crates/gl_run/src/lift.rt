@@ -11,7 +11,7 @@ ghost use Rattle.gl_lift.specs.Liftable.{IsLiftable, IsSearchable};
 ghost use Rattle.gl_deck.specs.Texts.{fault_text};
 ghost use Rattle.gl_cells.specs.Texts.{cell_text};
 ghost use Rattle.gl_words.specs.Names.{lift_names};
-ghost use Rattle.gl_run.specs.Jobs.{lift_course, lift_outs};
+ghost use Rattle.gl_run.specs.Jobs.{lift_course, lift_outs, texts_in_order};
 ghost use Rattle.gl_run.specs.Endings.{end_of};
 
 use crate::ending::Ending;
@@ -20,7 +20,7 @@ use crate::writing::finish;
 use gl_deck::Deck;
 use gl_desk::{Desk, Slot};
 use gl_job::{Kind, Output, read};
-use gl_lift::{Library, report_of};
+use gl_lift::{Library, Texts, texts_of};
 use gl_words::Lift;
 use std::alloc::Global;
 
@@ -58,12 +58,13 @@ fn read_library_file<D: Desk>(alloc: Global, desk: &mut D, word: &str) -> Result
     }
 }
 
-/// Reads both inputs, flattens the deck, and makes the report.
-fn make_lift<D: Desk>(alloc: Global, desk: &mut D, words: &Lift<'_>) -> Result<Vec<u8>, Ending>
+/// Reads both inputs, flattens the deck, and makes the texts of the lifted deck, the map of names and the report.
+fn make_lift<D: Desk>(alloc: Global, desk: &mut D, words: &Lift<'_>) -> Result<Texts, Ending>
     requires deck { (D.shows desk.old Slot.Deck).used ≡ false }
     requires library { (D.shows desk.old Slot.Library).used ≡ false }
-    ensures made { IfOk result (λ text. Makes [] (lift_course (lift_names words.now))
-        (lift_outs (lift_names words.now)) (text.items ∷ []) (run_of D.shows D.held D.wants desk.old desk.new)) }
+    ensures made { IfOk result (λ texts. Makes [] (lift_course (lift_names words.now))
+        (lift_outs (lift_names words.now)) (texts_in_order texts)
+        (run_of D.shows D.held D.wants desk.old desk.new)) }
     ensures unmade { IfErr result (λ ending. Ends [] (lift_course (lift_names words.now))
         (end_of ending) (run_of D.shows D.held D.wants desk.old desk.new)) }
     ensures others { (slot : Place) → slot ≢ Slot.Deck → slot ≢ Slot.Library
@@ -78,13 +79,13 @@ fn make_lift<D: Desk>(alloc: Global, desk: &mut D, words: &Lift<'_>) -> Result<V
         Ok(library) => library,
         Err(ending) => return Err(ending),
     };
-    match report_of(alloc, &deck, &library, words.top.as_ref(), &words.keep) {
-        Ok(text) => Ok(text),
+    match texts_of(alloc, &deck, &library, words.top.as_ref(), &words.keep) {
+        Ok(texts) => Ok(texts),
         Err(fault) => Err(Ending::Lift(fault)),
     }
 }
 
-/// Does the job `lift`: all that is written is made before the output is opened.
+/// Does the job `lift`: all that is written is made before the first output is opened.
 pub fn do_lift<D: Desk>(alloc: Global, desk: &mut D, words: &Lift<'_>) -> Ending
     requires free { (slot : Place) → slot ≢ Slot.Says
         → (D.shows desk.old slot).used ≡ false }
@@ -93,14 +94,26 @@ pub fn do_lift<D: Desk>(alloc: Global, desk: &mut D, words: &Lift<'_>) -> Ending
     ensures says { D.shows desk.new Slot.Says ≡ D.shows desk.old Slot.Says }
     ensures names { NamesSame D.held D.wants desk.old desk.new }
 {
-    let text = match make_lift(alloc, desk, words) {
-        Ok(text) => text,
+    let texts = match make_lift(alloc, desk, words) {
+        Ok(texts) => texts,
         Err(ending) => return ending,
     };
-    let outputs = [Output {
-        slot: Slot::Report,
-        word: words.report,
-        text: &text,
-    }];
+    let outputs = [
+        Output {
+            slot: Slot::Lifted,
+            word: words.lifted,
+            text: &texts.lifted,
+        },
+        Output {
+            slot: Slot::NewMap,
+            word: words.map,
+            text: &texts.map,
+        },
+        Output {
+            slot: Slot::Report,
+            word: words.report,
+            text: &texts.report,
+        },
+    ];
     finish(desk, &outputs)
 }

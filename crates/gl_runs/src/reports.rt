@@ -1,9 +1,9 @@
-//! The job `lift` through the top call: reports, refusals and calls that fail.
+//! The job `lift` through the top call: reports and refusals.
 ghost use Rattle.std.specs.Prelude.{IfOk};
 ghost use Rattle.gl_desk.specs.Desk.{IsFresh};
 ghost use Rattle.gl_desk.specs.MemoryDesk.{view_of};
 
-use gl_desk::{CallKind, Memory, MemoryDesk, Slot};
+use gl_desk::{Memory, MemoryDesk, Slot};
 use gl_run::run;
 use std::alloc::{AllocError, Global};
 
@@ -58,11 +58,11 @@ fn desk_of(alloc: Global, cards: &str, library: &str) -> Result<MemoryDesk, Memo
     Ok(desk)
 }
 
-/// What the run answers: its status, what an output was given and what was said, each in brackets.
-pub fn answer(
+/// What the run answers: its status, what the outputs were given and what was said, each in brackets.
+pub fn answers(
     alloc: Global,
     mut desk: MemoryDesk,
-    output: Slot,
+    outputs: &[Slot],
     text: &str,
 ) -> Result<Vec<u8>, Memory>
     requires { IsFresh view_of desk }
@@ -71,12 +71,22 @@ pub fn answer(
     let status = run(alloc, &words, &mut desk);
     let mut said = Vec::new(alloc);
     said.push(b'0' + status % 10)?;
+    for output in outputs {
+        said.push(b'[')?;
+        said.extend_from_slice(desk.text(*output).unwrap_or(b"none"))?;
+        said.push(b']')?;
+    }
     said.push(b'[')?;
-    said.extend_from_slice(desk.text(output).unwrap_or(b"none"))?;
-    said.extend_from_slice(b"][")?;
     said.extend_from_slice(desk.text(Slot::Says).unwrap_or(b"none"))?;
     said.push(b']')?;
     Ok(said)
+}
+
+/// The same of one output.
+pub fn answer(alloc: Global, desk: MemoryDesk, output: Slot, text: &str) -> Result<Vec<u8>, Memory>
+    requires { IsFresh view_of desk }
+{
+    answers(alloc, desk, &[output], text)
 }
 
 /// The same of the job `lift` on a deck and a library.
@@ -325,34 +335,5 @@ fn other_words(rt: HostRuntime) -> Result<(), Memory> {
         let found = answer(alloc, desk_of(alloc, "", INV)?, Slot::Report, text)?;
         assert!(rt; found.as_slice() == b"1[none][gatelift: 1 words\n]".as_slice());
     }
-    Ok(())
-}
-
-/// The same as `lifted` where a call fails.
-fn faulty(alloc: Global, kind: CallKind, number: u32) -> Result<Vec<u8>, Memory> {
-    let mut desk = desk_of(alloc, "m1 out in vdd vdd pch\nm2 out in 0 0 nch\n", INV)?;
-    desk.fail(kind, number)?;
-    answer(
-        alloc,
-        desk,
-        Slot::Report,
-        "lift deck library lifted map report",
-    )
-}
-
-#[test]
-fn failing_calls(rt: HostRuntime) -> Result<(), Memory> {
-    let alloc = rt.alloc();
-    let first_take = faulty(alloc, CallKind::Take, 1)?;
-    assert!(rt; first_take.as_slice() == b"7[none][gatelift: 7 read: Deck\n]".as_slice());
-    let second_open = faulty(alloc, CallKind::Open, 2)?;
-    assert!(rt; second_open.as_slice() == b"7[none][gatelift: 7 read: Library\n]".as_slice());
-    let third_open = faulty(alloc, CallKind::Open, 3)?;
-    assert!(rt; third_open.as_slice() == b"8[none][gatelift: 8 write: Report\n]".as_slice());
-    let second_give = faulty(alloc, CallKind::Give, 2)?;
-    assert!(rt;
-        second_give.as_slice()
-            == b"8[round 0\ncell inv ports 2 instances 1 chosen 1\n1 xg][gatelift: 8 write: Report\n]".as_slice()
-    );
     Ok(())
 }

@@ -5,7 +5,7 @@ use Rattle.clap.specs.Words.{App, Row, Kinds, IsAmong, fault_of, matches_of, is_
 use Rattle.clap.specs.declared.error.kind.ErrorKind.{ErrorKind}
 use Rattle.clap.proofs.OnLiterals.{clap_on_literals}
 use Rattle.gl_words.specs.Reading.{unless_refused, words_read}
-use Rattle.gl_words.specs.Commands.{lift_app, flat_app}
+use Rattle.gl_words.specs.Commands.{lift_app, flat_app, restore_app}
 
 pub ok_read : (app : App) (words : List (List ℕ)) (rows : List Row) → fault_of app words ≡ [] → rows ≡ matches_of app words → Some rows ≡ words_read app words
 unfolding words_read
@@ -32,3 +32,7 @@ lift_is_simple = refl
 pub flat_is_simple : is_simple_and_free flat_app ≡ true
 unfolding flat_app clap_on_literals
 flat_is_simple = refl
+
+pub restore_is_simple : is_simple_and_free restore_app ≡ true
+unfolding restore_app clap_on_literals
+restore_is_simple = refl

@@ -28,3 +28,7 @@ lift_app = with_option (with_option lift_words (codes "top")) (codes "keep")
 -- flat DECK OUT [--top N]
 unfoldable pub flat_app : App
 flat_app = with_option (with_word (with_word (new_app (codes "flat")) (codes "deck")) (codes "out")) (codes "top")
+
+-- restore LIFTED MAP OUT [--top N]
+unfoldable pub restore_app : App
+restore_app = with_option (with_word (with_word (with_word (new_app (codes "restore")) (codes "lifted")) (codes "map")) (codes "out")) (codes "top")

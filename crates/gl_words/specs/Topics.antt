@@ -2,12 +2,13 @@
 use Rattle.std.specs.Prelude.{ℕ, List, [], ◌∷◌, Option, None, Some, codes, unwrap_or, if◌then◌else◌}
 use Rattle.gl_text.specs.LogicalLines.{same_text}
 use Rattle.gl_words.specs.declared.help.Topic.{Topic}
-use Rattle.gl_words.specs.declared.help.Topic.TheVariants.{All, Version, Lift, Flat}
+use Rattle.gl_words.specs.declared.help.Topic.TheVariants.{All, Version, Lift, Flat, Restore}
 use Rattle.gl_words.specs.declared.help.TheConstants as texts
 
 -- a job of this name
 abbrev pub job_topic : List ℕ → Option Topic
-job_topic word = if same_text word (codes "lift") then Some Lift else (if same_text word (codes "flat") then Some Flat else None)
+job_topic word = if same_text word (codes "lift") then Some Lift
+    else (if same_text word (codes "flat") then Some Flat else (if same_text word (codes "restore") then Some Restore else None))
 
 -- `help`, `--help` or `--version` alone
 abbrev pub alone_topic : List ℕ → Option Topic
@@ -36,3 +37,4 @@ topic_text All = texts.ALL.now
 topic_text Version = texts.VERSION.now
 topic_text Lift = texts.LIFT.now
 topic_text Flat = texts.FLAT.now
+topic_text Restore = texts.RESTORE.now

@@ -1,7 +1,7 @@
 //! The commands of the jobs.
 ghost use Rattle.std.specs.Prelude.{◌≡◌, IfOk};
 ghost use Rattle.clap.specs.Words.{app_of};
-ghost use Rattle.gl_words.specs.Commands.{with_word, with_option, lift_app, flat_app};
+ghost use Rattle.gl_words.specs.Commands.{with_word, with_option, lift_app, flat_app, restore_app};
 
 use clap::{Arg, Command};
 use std::alloc::{AllocError, Global};
@@ -42,6 +42,16 @@ pub fn flat_command<'a>(alloc: Global) -> Result<Command<'a>, AllocError>
     ensures app { IfOk result (λ c. app_of c ≡ flat_app) }
 {
     let command = add_word(alloc, Command::new(alloc, "flat"), "deck")?;
+    let command = add_word(alloc, command, "out")?;
+    add_option(alloc, command, "top")
+}
+
+/// The command of the job `restore`.
+pub fn restore_command<'a>(alloc: Global) -> Result<Command<'a>, AllocError>
+    ensures app { IfOk result (λ c. app_of c ≡ restore_app) }
+{
+    let command = add_word(alloc, Command::new(alloc, "restore"), "lifted")?;
+    let command = add_word(alloc, command, "map")?;
     let command = add_word(alloc, command, "out")?;
     add_option(alloc, command, "top")
 }

@@ -13,6 +13,8 @@ pub enum Topic {
     Lift,
     /// The job `flat`.
     Flat,
+    /// The job `restore`.
+    Restore,
 }
 
 /// The text of the version.
@@ -27,15 +29,18 @@ usage: gatelift JOB WORD..
       lists the instances of the library's cells in the deck, into REPORT
   flat DECK OUT [--top NAME]
       writes the deck as one flat deck
+  restore LIFTED MAP OUT [--top NAME]
+      writes a lifted deck as the flat deck that it was made of, by its map of names
 
   gatelift help JOB, gatelift JOB --help   tells of a job
   gatelift --version                       tells the version
 
 statuses:
-  0  all is written              6  a file is too long
+  0  all is written              6  a file or a text is too long
   1  the words name no job       7  an input could not be read
   2  the deck is refused         8  an output could not be written
   3  the library is refused      9  there was too little memory
+  4  the map is refused
 
 example:
   gatelift lift deck.sp library.sp lifted.sp map.txt report.txt
@@ -75,6 +80,24 @@ example:
   gatelift flat deck.sp flat.sp --top chip
 ";
 
+/// The text of the job `restore`.
+const RESTORE: &str = "usage: gatelift restore LIFTED MAP OUT [--top NAME]
+
+Writes a lifted deck as the flat deck that it was made of: flattened, under the old names
+of its map, the devices in the map's order. A file that was edited in between is taken
+where every name has its line, and refused where not.
+
+  LIFTED   the lifted deck; its first line is its title
+  MAP      the map of names, with the new name of each device and net before the old one
+  OUT      the flat deck under the old names
+
+  --top NAME   the circuit is this subcircuit of the lifted deck, the name that `lift`
+               was given
+
+example:
+  gatelift restore lifted.sp map.txt flat.sp --top chip
+";
+
 /// A job of this name.
 fn job_topic_of(word: &str) -> Option<Topic>
     ensures topic { result ≡ job_topic word.now }
@@ -83,6 +106,8 @@ fn job_topic_of(word: &str) -> Option<Topic>
         Some(Topic::Lift)
     } else if word == "flat" {
         Some(Topic::Flat)
+    } else if word == "restore" {
+        Some(Topic::Restore)
     } else {
         None
     }
@@ -147,6 +172,7 @@ impl Topic {
             Topic::Version => VERSION,
             Topic::Lift => LIFT,
             Topic::Flat => FLAT,
+            Topic::Restore => RESTORE,
         }
     }
 }

@@ -9,4 +9,4 @@ mod reading;
 
 pub use gl_line::Name;
 pub use help::{Topic, topic_of, usage_of};
-pub use job::{Flat, Job, Lift, job_of};
+pub use job::{Flat, Job, Lift, Restore, job_of};

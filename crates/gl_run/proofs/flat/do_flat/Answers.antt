@@ -1,4 +1,4 @@
-use Rattle.std.proofs.Common.{◌≡◌, ℕ, List, [], ◌∷◌, refl, subst}
+use Rattle.std.proofs.Common.{ℕ, List, [], ◌∷◌, refl, subst}
 use Rattle.gl_desk.specs.declared.slot.Slot.TheVariants.{Out}
 use Rattle.gl_job.specs.Runs.{run_of, opening}
 use Rattle.gl_job.specs.Courses.{Writes}
