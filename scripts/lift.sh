@@ -1,5 +1,5 @@
 #!/usr/bin/env bash
-# Proves and builds the program, lists the instances of LIBRARY's cells in DECK, and shows the report.
+# Proves and builds the program, lifts DECK with LIBRARY, and shows the lifted deck, the map of names and the report.
 # Usage: scripts/lift.sh DECK LIBRARY
 set -eu
 [ $# = 2 ] || { echo "usage: scripts/lift.sh DECK LIBRARY" >&2; exit 1; }
@@ -11,6 +11,8 @@ trap 'rm -rf "$room"' EXIT
 cd "$top/crates/gatelift"
 status=0
 rt run -- lift "$deck" "$library" "$room/lifted" "$room/map" "$room/report" 2>"$room/log" || status=$?
-[ -e "$room/report" ] && cat "$room/report"
+for file in lifted map report; do
+    if [ -e "$room/$file" ]; then cat "$room/$file"; fi
+done
 [ $status = 0 ] || tail -n 3 "$room/log" >&2
 exit $status
