@@ -26,7 +26,7 @@ struct CircuitRow {
 /// What comes of it, as a line.
 fn circuit_line(rt: &impl Abort, alloc: Global, row: &CircuitRow) -> Result<String, Fail> {
     let shapes = shapes_of(alloc, row.shapes)?;
-    let devices = devices_of(rt, alloc, row.devices)?;
+    let devices = devices_of(alloc, row.devices)?;
     let mut rails = Vec::new(alloc);
     for rail in row.rails {
         rails.push(rail.map(|net| NetId(net)))?;
@@ -144,7 +144,7 @@ struct PatternRow {
 fn pattern_line(rt: &impl Abort, alloc: Global, row: &PatternRow) -> Result<String, Fail> {
     let shapes = shapes_of(alloc, &[&M])?;
     assert!(rt; shapes.len() == 1 && shapes[0].classes().len() == 4);
-    let devices = devices_of(rt, alloc, row.devices)?;
+    let devices = devices_of(alloc, row.devices)?;
     let roles = Vec::from_slice(alloc, row.roles)?;
     let ports = nets_of(alloc, row.ports)?;
     assert!(rt; roles.len() <= 8 && ports.len() <= 8);
@@ -263,7 +263,6 @@ fn chain(rt: &impl Abort, alloc: Global) -> Result<Circuit, Fail>
 {
     let shapes = shapes_of(alloc, &[&M, &R])?;
     let devices = devices_of(
-        rt,
         alloc,
         &[(0, &[3, 1, 2, 2]), (1, &[0, 3]), (0, &[2, 4, 0, 2])],
     )?;
@@ -311,7 +310,7 @@ fn patterns_answer(rt: HostRuntime) -> Result<(), Fail> {
     let alloc = rt.alloc();
     let shapes = shapes_of(alloc, &[&R])?;
     assert!(rt; shapes.len() == 1 && shapes[0].classes().len() == 2);
-    let devices = devices_of(&rt, alloc, &[(0, &[0, 1]), (0, &[2, 1])])?;
+    let devices = devices_of(alloc, &[(0, &[0, 1]), (0, &[2, 1])])?;
     let roles = vec![in alloc; Role::Port(0), Role::Inner, Role::Rail(1)]?;
     let ports = nets_of(alloc, &[0])?;
     assert!(rt; ports.len() == 1);

@@ -29,7 +29,7 @@ fn cell_of(
     for shape in &shapes {
         assert!(rt; shape.classes().len() <= 8);
     }
-    let devices = devices_of(rt, alloc, &[(parts.0, &[0, 1]), (parts.0, &[1, 2])])?;
+    let devices = devices_of(alloc, &[(parts.0, &[0, 1]), (parts.0, &[1, 2])])?;
     let roles = vec![in alloc; Role::Port(0), Role::Inner, Role::Port(1)]?;
     let ports = vec![in alloc; NetId(0), NetId(2)]?;
     assert!(rt; shapes.len() <= 8);
@@ -68,7 +68,6 @@ fn text_of(alloc: Global, lifted: &Lifted) -> Result<String, Fail> {
 fn two_rounds(rt: HostRuntime) -> Result<(), Fail> {
     let alloc = rt.alloc();
     let devices = devices_of(
-        &rt,
         alloc,
         &[(0, &[0, 1]), (0, &[1, 2]), (0, &[2, 3]), (0, &[3, 4])],
     )?;
