@@ -80,21 +80,22 @@ fn texts_of_flat(
 
 /// The lifted deck, the map of names and the report of all rounds of a library's cells in a deck, with a top or none, and with
 /// the nets of some names kept; or the refusal of the deck as it is flattened, and then the first kept name that is no net of
-/// a device.
+/// a device. The deck is given up when it is flattened, to make room for the search.
 pub fn texts_of(
     alloc: Global,
-    deck: &Deck,
+    deck: Deck,
     library: &Library,
     top: Option<&Name>,
     keep: &[Name],
 ) -> Result<Texts, LiftFault>
-    requires deck { IsLiftable deck.now }
+    requires deck { IsLiftable deck }
     requires library { IsSearchable library.now }
     ensures gives { GivesOf (λ texts flat. AreLiftTexts keep.now library.now flat texts) result
-        (lifted_flat (option_copied top.entry) keep.now deck.now library.now) }
+        (lifted_flat (option_copied top.entry) keep.now deck library.now) }
 {
     flat_decks_are_sound();
-    let flat = flat_of(alloc, deck, library, top)?;
+    let flat = flat_of(alloc, &deck, library, top)?;
+    drop(deck);
     plain_texts_are_texts();
     match texts_of_flat(alloc, &flat, library, keep) {
         Ok(texts) => Ok(texts),

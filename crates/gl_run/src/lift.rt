@@ -79,7 +79,7 @@ fn make_lift<D: Desk>(alloc: Global, desk: &mut D, words: &Lift<'_>) -> Result<T
         Ok(library) => library,
         Err(ending) => return Err(ending),
     };
-    match texts_of(alloc, &deck, &library, words.top.as_ref(), &words.keep) {
+    match texts_of(alloc, deck, &library, words.top.as_ref(), &words.keep) {
         Ok(texts) => Ok(texts),
         Err(fault) => Err(Ending::Lift(fault)),
     }
