@@ -1,16 +1,16 @@
--- Link 5 of a lawful history of bytes within its limits, and the whole lift theorem.
-use Rattle.std.proofs.Common.{◌≡◌, ◌<◌, ◌∙◌, ℕ, List, [], ◌∷◌, ◌++◌, length, get_or, map, ltb, true, false, None, codes, refl, sym, ap, subst, flat_map}
+-- Link 5 of a lawful history of bytes, within limits or not.
+use Rattle.std.proofs.Common.{◌≡◌, ◌<◌, ◌∙◌, ℕ, List, [], ◌∷◌, ◌++◌, length, get_or, map, ltb, true, false, Option, None, codes, refl, sym, ap, subst, flat_map, arith, inl, inr}
 use Rattle.std.specs.Prelude.{Contains, zip}
 use Rattle.std.specs.List.{AllByRecursion}
 use Rattle.std.proofs.lemmas.List.{length-map, get_or-map}
-use Rattle.std.proofs.lemmas.List.Elements.{Contains-get_or, Contains-append_right}
-use Rattle.gl_match.proofs.Lists.{Once, in_map, from_map, from_flat_map}
+use Rattle.std.proofs.lemmas.List.Elements.{Contains-get_or, Contains-append_left, Contains-append_right, Contains-append_cases}
+use Rattle.gl_match.proofs.Lists.{Once, in_head, in_cons, in_map, from_map, in_flat_map, from_flat_map}
 use Rattle.gl_match.proofs.AtLaws.{get_any}
 use Rattle.gl_match.specs.Graph.{Device, device_at}
 use Rattle.gl_text.specs.LogicalLines.{same_text}
 use Rattle.gl_text.specs.Cards.{Device as Card, first_byte}
 use Rattle.gl_text.specs.Decks.{Deck, has_twice, body_name}
-use Rattle.gl_text.specs.Flattening.{DEPTH, Flat, FlatDevice, Net, net, top_net, top_place, top_ports, bearers, net_name, device_name, flat_card, flat_devices, first_clash}
+use Rattle.gl_text.specs.Flattening.{DEPTH, Flat, FlatDevice, Net, net, device, top_net, top_place, top_ports, bearers, bearer_name, net_name, device_name, flat_card, flat_devices, first_clash}
 use Rattle.gl_base.specs.BaseCircuit.{nets_of, net_number, device_of}
 use Rattle.gl_base.specs.Libraries.{Library}
 use Rattle.gl_base.specs.Reports.{name_at}
@@ -24,17 +24,18 @@ use Rattle.gl_lifting.specs.Histories.{History}
 use Rattle.gl_lifting.specs.Variants.{card_at, variants_of, variant_names}
 use Rattle.gl_lifting.specs.LiftedDecks.{slot_card, top_name, lifted_deck}
 use Rattle.gl_lifting.specs.NameMaps.{NameMap, map_of}
-use Rattle.gl_lifting.specs.OutLimits.{limits, out_limit, lifted_flat}
+use Rattle.gl_lifting.specs.OutLimits.{lifted_flat}
 use Rattle.gl_lifting.specs.Renaming.{old_name, new_names, names_of_devices}
 use Rattle.gl_lifting.specs.Lifted.{Options}
-use Rattle.gl_lifting.specs.Chain.{IsLawfulOf, LiftedIsFlat, RenamedIsOriginal}
+use Rattle.gl_lifting.specs.Chain.{IsLawfulOf, RenamedIsOriginal}
 use Rattle.gl_lifting.specs.Suited.{HasSuited}
-use Rattle.gl_lifting.specs.Pairing.{StandsFor, ArePaired}
+use Rattle.gl_lifting.specs.Pairing.{StandsFor, ArePaired, AreAmong}
+use Rattle.gl_lifting.specs.Counting.{HasNewNames, new_card, HasNewCards}
 use Rattle.gl_lifting.proofs.FlatCardLaws.{in_each, cards_fine, nets_parts}
 use Rattle.gl_lifting.proofs.TurnedNameLaws.{each_in}
 use Rattle.gl_lifting.proofs.ReadBytesLaws.{flat_known}
 use Rattle.gl_lifting.proofs.MapLaws.{device_names_are, net_names_are, nets_apart, devices_apart}
-use Rattle.gl_lifting.proofs.FlatNameLaws.{names_are, flat_names_differ}
+use Rattle.gl_lifting.proofs.FlatNameLaws.{names_are, clashless_differ, flat_names_differ}
 use Rattle.gl_lifting.proofs.PairedLaws.{paired_back}
 use Rattle.gl_lifting.proofs.LineBackLaws.{net_back}
 use Rattle.gl_lifting.proofs.MatchedBackLaws.{original_nodes}
@@ -49,10 +50,9 @@ use Rattle.gl_lifting.proofs.WalkLaws.{IsGood}
 use Rattle.gl_lifting.proofs.TopGoodLaws as good
 use Rattle.gl_lifting.proofs.EachStandsLaws.{named_new, stands_for, net_stands, news_once}
 use Rattle.gl_lifting.proofs.LiftedFactLaws as facts
-use Rattle.gl_lifting.proofs.FourthLinkLaws.{expanded, clashless, as_many, lifted_is_flat}
+use Rattle.gl_lifting.proofs.FourthLinkLaws.{expanded, clashless, as_many}
 
-module _ (deck_bytes library_bytes : List ℕ) (o : Options) (flat : Flat) (library : Library) (h : History) (stem : List ℕ) (is : IsLawfulOf deck_bytes library_bytes o flat library h stem) (suited : HasSuited (run_of flat library o.keep).source flat library h)
-    (map_bytes report : List ℕ) (within_limits : out_limit limits flat.top (lifted_deck stem flat (run_of flat library o.keep).source h) map_bytes report ≡ None) where
+module _ (deck_bytes library_bytes : List ℕ) (o : Options) (flat : Flat) (library : Library) (h : History) (stem : List ℕ) (is : IsLawfulOf deck_bytes library_bytes o flat library h stem) (suited : HasSuited (run_of flat library o.keep).source flat library h) where
   abbrev run : Run
   run = run_of flat library o.keep
 
@@ -74,9 +74,6 @@ module _ (deck_bytes library_bytes : List ℕ) (o : Options) (flat : Flat) (libr
   abbrev new_net : ℕ → Net
   new_net = good.nets deck_bytes library_bytes o flat library h stem is suited
 
-  link4 : LiftedIsFlat o flat run h stem
-  link4 = lifted_is_flat deck_bytes library_bytes o flat library h stem is suited map_bytes report within_limits
-
   -- the flat devices are those of the last circuit's cards
   flat_is : f.devices ≡ flat_devices flat.rails deck.subs DEPTH top_place (map (slot_card stem (cards_of flat) (variant_names (top_name flat) (variants_of (cards_of flat) h.last.composites).different) (variants_of (cards_of flat) h.last.composites).numbers) h.last.slots)
   flat_is = ap (λ bs. flat_devices flat.rails deck.subs DEPTH top_place bs) (expanded deck_bytes library_bytes o flat library h stem is suited)
@@ -84,14 +81,24 @@ module _ (deck_bytes library_bytes : List ℕ) (o : Options) (flat : Flat) (libr
   all_good : AllByRecursion (IsGood run cards (new_names m.devices) new_net) f.devices
   all_good = subst (λ (ds : List FlatDevice). AllByRecursion (IsGood run cards (new_names m.devices) new_net) ds) (sym flat_is) (good.all_good deck_bytes library_bytes o flat library h stem is suited)
 
+  -- no names clash, so the devices' differ
+  free : first_clash (map (λ n. net (top_net n)) (codes "0" ∷ flat.rails ++ top_ports flat.top)) (flat_map bearers f.devices) ≡ None
+  free = subst (λ (ds : List FlatDevice). first_clash (map (λ n. net (top_net n)) (codes "0" ∷ flat.rails ++ top_ports flat.top)) (flat_map bearers ds) ≡ None) (sym flat_is) (clashless deck_bytes library_bytes o flat library h stem is suited)
+
+  pub names_differ : has_twice (names_of_devices f) ≡ false
+  names_differ = clashless_differ (codes "0" ∷ flat.rails ++ top_ports flat.top) f.devices free
+
   once : Once (map device_name f.devices)
-  once = subst Once (sym (names_are f.devices)) (once_from (names_of_devices f) (flat_names_differ deck deck.globals o.top f link4))
+  once = subst Once (sym (names_are f.devices)) (once_from (names_of_devices f) names_differ)
 
   many : length f.devices ≡ length cards
   many = as_many deck_bytes library_bytes o flat library h stem is suited ∙ sym (length-map flat.devices flat_card)
 
   long : length (new_names m.devices) ≡ length cards
   long = new.news_long _ (names_of_devices flat) ∙ length-map cards (λ (c : Card). c.name)
+
+  as_many_nets : length (new_names m.nets) ≡ length olds
+  as_many_nets = new.news_long _ olds
 
   -- a device that stands for an original one
   stands : (k : ℕ) → k < length cards → (d : FlatDevice) × Contains f.devices d × (g : IsGood run cards (new_names m.devices) new_net d) × (g.dev ≡ k)
@@ -127,7 +134,6 @@ module _ (deck_bytes library_bytes : List ℕ) (o : Options) (flat : Flat) (libr
   agree : Agree (flat_map bearers f.devices)
   agree =
       let tops = codes "0" ∷ flat.rails ++ top_ports flat.top in
-      let free = subst (λ (ds : List FlatDevice). first_clash (map (λ n. net (top_net n)) tops) (flat_map bearers ds) ≡ None) (sym flat_is) (clashless deck_bytes library_bytes o flat library h stem is suited) in
       let all = agree_by (flat_map bearers f.devices) (map (λ n. net (top_net n)) tops) (tops_agree tops) free in
       λ x y ax ay. all x y (Contains-append_right (map (λ n. net (top_net n)) tops) (flat_map bearers f.devices) (net x) ax) (Contains-append_right (map (λ n. net (top_net n)) tops) (flat_map bearers f.devices) (net y) ay)
 
@@ -183,8 +189,76 @@ module _ (deck_bytes library_bytes : List ℕ) (o : Options) (flat : Flat) (libr
   renamed =
       let own = flat_names_differ is.deck (run_rails is.deck.globals library.deck.globals) o.top flat is.flat_is in
       let fine = nets_parts cards (cards_fine flat (flat_known deck_bytes library_bytes o flat library h stem is)) in
-      paired_back f m flat paired (once_from (names_of_devices f) (flat_names_differ deck deck.globals o.top f link4)) (device_names_are stem flat run.source h) (net_names_are stem flat run.source h)
+      paired_back f m flat paired (once_from (names_of_devices f) names_differ) (device_names_are stem flat run.source h) (net_names_are stem flat run.source h)
       (λ e. no_empty (in_each _ olds [] fine e).some) (λ k. nets_apart k stem flat run.source h) (λ k. devices_apart k stem flat run.source h own) refl
     where
       no_empty : ltb 0 (length {A = ℕ} []) ≡ true → ⊥
       no_empty e = cc
+
+  -- ---- names
+
+  -- each written name is a new name of the map
+  written_known : AreAmong (map bearer_name (flat_map bearers f.devices)) (new_names m.devices ++ new_names m.nets)
+  written_known name at =
+      let r = from_map bearer_name (flat_map bearers f.devices) name at in
+      let q = from_flat_map bearers f.devices r.0 r.1 in
+      elim (in_cons (device (device_name q.0)) (map net q.0.nets) r.0 q.2) [
+        | inl same ↦ Contains-append_left (new_names m.devices) (new_names m.nets) name (subst (λ x. Contains (new_names m.devices) x) (ap bearer_name same ∙ r.2) (named_new run cards (new_names m.devices) new_net f.devices all_good once many long (device_name q.0) (in_map device_name f.devices q.0 q.1)))
+        | inr later ↦
+            let n = from_map net q.0.nets r.0 later in
+            let g = in_each (IsGood run cards (new_names m.devices) new_net) f.devices q.0 all_good q.1 in
+            let i = from_map new_net (device_at (first_circuit run).devices g.dev).nets n.0 (subst (λ (ns : List Net). Contains ns n.0) g.netted n.1) in
+            let lt = low g.dev i.0 g.lies i.1 in
+            let named : name_at (new_names m.nets) i.0 ≡ name = net_named i.0 lt ∙ ap net_name i.2 ∙ ap bearer_name n.2 ∙ r.2 in
+            Contains-append_right (new_names m.devices) (new_names m.nets) name (subst (λ x. Contains (new_names m.nets) x) named (Contains-get_or (new_names m.nets) i.0 [] (omega (arith, lt, as_many_nets))))
+      ]
+    where
+      net_named : (i : ℕ) → i < length olds → name_at (new_names m.nets) i ≡ net_name (new_net i)
+      net_named i lt = new.new_name_is run h stem is.lawful (good.sep deck_bytes library_bytes o flat library h stem is suited) i lt
+
+  -- and each new name of the map is written
+  written_there : AreAmong (new_names m.devices ++ new_names m.nets) (map bearer_name (flat_map bearers f.devices))
+  written_there name at = elim (Contains-append_cases (new_names m.devices) (new_names m.nets) name at) [
+    | inl dev ↦
+        let s = stands dev.0 (omega (arith, dev.1, long)) in
+        let d = s.0 in
+        let named : device_name d ≡ name = s.2.named ∙ ap (name_at (new_names m.devices)) s.3 ∙ get_any (new_names m.devices) dev.0 [] name dev.1 ∙ dev.2 in
+        subst (λ x. Contains (map bearer_name (flat_map bearers f.devices)) x) named (in_map bearer_name (flat_map bearers f.devices) (device (device_name d)) (in_flat_map bearers f.devices d (device (device_name d)) s.1 (in_head (device (device_name d)) (map net d.nets))))
+    | inr other ↦
+        let lt : other.0 < length olds = omega (arith, other.1, as_many_nets) in
+        let named : net_name (new_net other.0) ≡ name = sym (new.new_name_is run h stem is.lawful (good.sep deck_bytes library_bytes o flat library h stem is suited) other.0 lt) ∙ get_any (new_names m.nets) other.0 [] name other.1 ∙ other.2 in
+        subst (λ x. Contains (map bearer_name (flat_map bearers f.devices)) x) named (in_map bearer_name (flat_map bearers f.devices) (net (new_net other.0)) (net_there other.0 lt))
+  ]
+
+  pub names_told : HasNewNames flat run h stem
+  names_told = record { known = written_known; there = written_there }
+
+  -- ---- the original devices under their new names
+
+  new_stands : (z : List ℕ × Card) → Contains (zip (new_names m.devices) cards) z → Contains (cards_of f) (new_card m olds z)
+  new_stands z at =
+      let none : Card = record { name = []; nodes = []; model = None; tail = [] } in
+      let r = zip_get (new_names m.devices) cards [] none z at in
+      let k = r.0 in
+      let s = stands k r.2 in
+      let d = s.0 in
+      let nums = (device_at (first_circuit run).devices k).nets in
+      let nets : d.nets ≡ map new_net nums = s.2.netted ∙ ap (λ n. map new_net (device_at (first_circuit run).devices n).nets) s.3 in
+      let named : device_name d ≡ z.0 = s.2.named ∙ ap (name_at (new_names m.devices)) s.3 ∙ r.3 in
+      let numbered : (i : ℕ) → Contains nums i → net_name (new_net i) ≡ name_at (new_names m.nets) i = λ i on. sym (new.new_name_is run h stem is.lawful (good.sep deck_bytes library_bytes o flat library h stem is suited) i (low k i r.2 on)) in
+      let nodes : map net_name d.nets ≡ map (λ n. name_at (new_names m.nets) (net_number olds n)) z.1.nodes = ap (map net_name) nets ∙ map_again net_name new_net nums ∙ map_both (λ i. net_name (new_net i)) (name_at (new_names m.nets)) nums numbered
+      ∙ ap (map (name_at (new_names m.nets))) (nets_are k r.2) ∙ map_again (name_at (new_names m.nets)) (net_number olds) (card_at cards k).nodes ∙ ap (λ (c : Card). map (λ n. name_at (new_names m.nets) (net_number olds n)) c.nodes) r.4 in
+      let model : d.card.model ≡ z.1.model = s.2.model ∙ ap (λ n. (card_at cards n).model) s.3 ∙ ap (λ (c : Card). c.model) r.4 in
+      let tail : d.card.tail ≡ z.1.tail = s.2.tail ∙ ap (λ n. (card_at cards n).tail) s.3 ∙ ap (λ (c : Card). c.tail) r.4 in
+      subst (λ (c : Card). Contains (cards_of f) c) (card_by named nodes model tail) (in_map flat_card f.devices d s.1)
+    where
+      as_card : List ℕ → List (List ℕ) → Option (List ℕ) → List ℕ → Card
+      as_card a ns p t = record { name = a; nodes = ns; model = p; tail = t }
+
+      card_by : {a b : List ℕ} {ns ms : List (List ℕ)} {p q : Option (List ℕ)} {t u : List ℕ} → a ≡ b → ns ≡ ms → p ≡ q → t ≡ u → as_card a ns p t ≡ as_card b ms q u
+      card_by {a} {b} {ns} {ms} {p} {q} {t} {u} r s x y = ap (λ v. as_card v ns p t) r ∙ ap (λ v. as_card b v p t) s ∙ ap (λ v. as_card b ms v t) x ∙ ap (as_card b ms q) y
+
+  pub new_cards_stand : HasNewCards flat run h stem
+  new_cards_stand = each_of (new_card m olds) (λ c. Contains (cards_of f) c) (zip (new_names m.devices) cards) new_stands where
+    each_of : {X Y : Type 0} (g : X → Y) (P : Y → Type 0) (xs : List X) → ((x : X) → Contains xs x → P (g x)) → AllByRecursion P (map g xs)
+    each_of g P xs on = each_in P (map g xs) (λ y at. let r = from_map g xs y at in subst P r.2 (on r.0 r.1))

@@ -1,7 +1,7 @@
 -- A flattened deck's device names differ.
-use Rattle.std.proofs.Common.{◌≡◌, ◌∙◌, ◌+◌, ℕ, List, [], ◌∷◌, ◌++◌, length, map, ltb, false, Option, Ok, refl, sym, ap, flat_map, codes, subst}
+use Rattle.std.proofs.Common.{◌≡◌, ◌∙◌, ◌+◌, ℕ, List, [], ◌∷◌, ◌++◌, length, map, ltb, false, Option, None, Ok, refl, sym, ap, flat_map, codes, subst}
 use Rattle.gl_text.specs.LogicalLines.{NAME, long_flat_name, long_text}
-use Rattle.gl_text.specs.Cards.{Head, Model}
+use Rattle.gl_text.specs.Cards.{Head, Model, Device as Card}
 use Rattle.gl_text.specs.Decks.{Deck, has_twice}
 use Rattle.gl_text.specs.Flattening.{DEPTH, TEXT, FlatDevice, Flat, net, top_net, top_ports, top_place, flat_devices, bearers, bearer_name, first_clash, chosen, device_name, flat_card, flat_text, flatten}
 use Rattle.gl_printed.proofs.FlatAlike.{behind_chosen, faults_flat, finish_flat, flatten_is}
@@ -18,6 +18,10 @@ names_are (d ∷ ds) = ap (λ ns. device_name d ∷ ns) (names_are ds)
 nets_twice : (ns : List (List ℕ)) → map net (map top_net ns) ≡ map (λ n. net (top_net n)) ns
 nets_twice [] = refl
 nets_twice (n ∷ ns) = ap (λ xs. net (top_net n) ∷ xs) (nets_twice ns)
+
+-- where no names clash, the devices' differ
+pub clashless_differ : (tops : List (List ℕ)) (ds : List FlatDevice) → first_clash (map (λ n. net (top_net n)) tops) (flat_map bearers ds) ≡ None → has_twice (map (λ (c : Card). c.name) (map flat_card ds)) ≡ false
+clashless_differ tops ds e = ap has_twice (sym (names_are ds)) ∙ all_differ_flat (map top_net tops) ds (ap (λ ns. first_clash ns (flat_map bearers ds)) (nets_twice tops) ∙ e)
 
 -- of what is finished
 finished_differ : (title : List ℕ) (rails : List (List ℕ)) (models : List Model) (passed : List (List ℕ)) (head : Option Head) (devices : List FlatDevice) (flat : Flat) → finish_flat title rails models passed head devices ≡ Ok flat → has_twice (names_of_devices flat) ≡ false

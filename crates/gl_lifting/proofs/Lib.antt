@@ -93,3 +93,4 @@ mod NetTableLaws
 mod EachStandsLaws
 mod FifthLinkOfLaws
 mod LiftsBackLaws
+mod CardCountLaws

@@ -24,7 +24,7 @@ fewer_links deck_bytes library_bytes o flat library h stem map report is within_
       composites_once = composites_once run h is.lawful;
       variants_found = variants_found (cards_of flat) run h (read_libraries library_bytes library is.library_is).0.subs_differ is.lawful;
       lifted_is_flat = lifted_is_flat deck_bytes library_bytes o flat library h stem is suited map report within_limits;
-      renamed_is_original = renamed deck_bytes library_bytes o flat library h stem is suited map report within_limits;
+      renamed_is_original = renamed deck_bytes library_bytes o flat library h stem is suited;
       some_net = some_net deck_bytes library_bytes o flat library h stem is;
       few = few_composites deck_bytes library_bytes o flat library h stem is;
       named = named deck_bytes library_bytes o flat library h stem is suited map report within_limits;

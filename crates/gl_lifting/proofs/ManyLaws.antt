@@ -37,11 +37,16 @@ first_weigh : (g : Origin → ℕ) → ((d : ℕ) → g (base d) ≡ 1) → (k :
 first_weigh g one k [] = refl
 first_weigh g one k (d ∷ ds) = omega (arith, one k, first_weigh g one (k + 1) ds)
 
--- so at last
-pub history_weighs : (g : Origin → ℕ) → ((d : ℕ) → g (base d) ≡ 1) → (run : Run) (h : History) → IsTold run → IsLawful run h → made_weight g h.last.composites ≡ parts_weight g h.last.composites → weight g h.last.slots ≡ length run.source.devices
-history_weighs g one run h told lawful same =
+-- so at last, whatever composites stand for
+pub history_weight : (g : Origin → ℕ) → ((d : ℕ) → g (base d) ≡ 1) → (run : Run) (h : History) → IsTold run → IsLawful run h → stage_weight g h.last ≡ length run.source.devices + made_weight g h.last.composites
+history_weight g one run h told lawful =
     let devices = (first_circuit run).devices in
     let at_first = first_weigh g one 0 devices in
     let long : length devices ≡ length run.source.devices = length-map run.source.devices (device_of run.source (nets_of run.source.devices)) in
-    let last = rounds_weigh g (length run.source.devices) run 0 (first_stage run) h.last h.rounds told (omega (arith, at_first, long)) lawful.follow in
+    rounds_weigh g (length run.source.devices) run 0 (first_stage run) h.last h.rounds told (omega (arith, at_first, long)) lawful.follow
+
+-- and where each composite stands for what its parts stand for
+pub history_weighs : (g : Origin → ℕ) → ((d : ℕ) → g (base d) ≡ 1) → (run : Run) (h : History) → IsTold run → IsLawful run h → made_weight g h.last.composites ≡ parts_weight g h.last.composites → weight g h.last.slots ≡ length run.source.devices
+history_weighs g one run h told lawful same =
+    let last = history_weight g one run h told lawful in
     omega (arith, last, same)

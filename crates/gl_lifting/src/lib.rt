@@ -3,6 +3,7 @@
 
 mod laws;
 mod lifted_laws;
+mod limit_laws;
 mod reading_laws;
 
 pub use laws::{
@@ -17,6 +18,7 @@ pub use lifted_laws::{
     composites_are_named, lawful_parts_suit, lifted_decks_are_flat, lifted_decks_are_renamed,
     what_is_lifted_can_be_restored,
 };
+pub use limit_laws::{lifted_decks_are_counted, lifted_decks_are_paired, lifted_devices_stand};
 pub use reading_laws::{
     fewer_links_lift_back, lawful_histories_are_read, lawful_histories_suit, legal_parts_suit,
     lifted_decks_are_read, maps_have_names, variant_names_differ,
