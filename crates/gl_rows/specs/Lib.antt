@@ -3,3 +3,4 @@ pub mod Files
 pub mod Texts
 pub mod WorkedDecks
 pub mod LiftRows
+pub mod LimitRows

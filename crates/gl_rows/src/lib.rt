@@ -4,6 +4,7 @@
 mod circuits;
 mod keeping;
 mod lifting;
+mod limits;
 mod linked;
 mod matching;
 mod printed;
@@ -18,6 +19,7 @@ pub use lifting::{
     one_of_overlapping_is_chosen, skipped_cells_are_told, stem_is_free, top_is_lifted,
     turns_are_undone, two_levels_are_lifted,
 };
+pub use limits::{each_limit_of_lifting, the_limit_of_restoring};
 pub use linked::{
     links_hold_on_rows, origins_are_told_on_rows, tried_lists_are_complete, variants_are_shared,
 };
