@@ -26,7 +26,8 @@ const ALL: &str = "gatelift finds the cells of a library in a transistor netlist
 usage: gatelift JOB WORD..
 
   lift DECK LIBRARY LIFTED MAP REPORT [--top NAME] [--keep NAME,NAME..]
-      lists the instances of the library's cells in the deck, into REPORT
+      writes the deck again with the library's cells as calls of subcircuits, a map of
+      its names, and a report of all instances
   flat DECK OUT [--top NAME]
       writes the deck as one flat deck
   restore LIFTED MAP OUT [--top NAME]
@@ -36,7 +37,7 @@ usage: gatelift JOB WORD..
   gatelift --version                       tells the version
 
 statuses:
-  0  all is written              6  a file or a text is too long
+  0  all is written              6  a limit on files is passed
   1  the words name no job       7  an input could not be read
   2  the deck is refused         8  an output could not be written
   3  the library is refused      9  there was too little memory
@@ -50,13 +51,15 @@ example:
 const LIFT: &str =
     "usage: gatelift lift DECK LIBRARY LIFTED MAP REPORT [--top NAME] [--keep NAME,NAME..]
 
-Lists the instances of the library's cells in the deck, into REPORT.
+Writes the deck again with the library's cells as calls of subcircuits, a map of its names,
+and a report of all instances. Nothing is written where one of the three passes a limit.
 
   DECK      the netlist that is read; its first line is its title
   LIBRARY   the cells that are looked for, each a .subckt; it has no title
-  LIFTED    the lifted deck; not written yet
-  MAP       the map of names; not written yet
-  REPORT    the instances of each cell, and how many devices are left
+  LIFTED    the lifted deck: flattened, each chosen instance a call of a subcircuit
+  MAP       the map of names: under which name each device and net of the flat deck
+            stands in the lifted deck, flattened; `restore` takes both
+  REPORT    the instances of each cell, round by round, and how many devices are left
 
   --top NAME          the circuit is this subcircuit of the deck, whose ports no cell
                       may take as inner nets; no card may stand outside subcircuits

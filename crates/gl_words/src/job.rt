@@ -19,9 +19,9 @@ pub struct Lift<'a> {
     pub deck: &'a str,
     /// The library to be read.
     pub library: &'a str,
-    /// The lifted deck to be written. Not used yet.
+    /// The lifted deck to be written.
     pub lifted: &'a str,
-    /// The map of names to be written. Not used yet.
+    /// The map of names to be written.
     pub map: &'a str,
     /// The report to be written.
     pub report: &'a str,
