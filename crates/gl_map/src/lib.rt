@@ -18,4 +18,5 @@ pub use gl_line::{Memory, Name};
 pub use laws::read_maps_have_names;
 pub use name_map::NameMap;
 pub use naming::{put_device_name, put_instance_name, put_net_name, put_variant_name};
+pub use print::{put_map_end, put_map_header, put_map_line};
 pub use said::map_parts;

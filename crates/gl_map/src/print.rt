@@ -1,4 +1,5 @@
-ghost use Rattle.std.specs.Prelude.{◌≡◌, ◌++◌, codes, flat_map, is_ok, length, take, OnOk, if◌then◌else◌};
+ghost use Rattle.std.specs.Prelude.{◌≡◌, ◌++◌, ◌∷◌, [], codes, flat_map, is_ok, length, take, OnOk, if◌then◌else◌};
+ghost use Rattle.gl_base.specs.Reports.{line};
 ghost use Rattle.gl_lifting.specs.NameMaps.{map_line, map_text};
 
 use crate::{Memory, Name, NameMap};
@@ -12,8 +13,24 @@ pub fn put(out: &mut Vec<u8>, bytes: &[u8]) -> Result<(), Memory>
     Ok(())
 }
 
-/// Appends a line: a word, the new name and the old one.
-fn put_line(out: &mut Vec<u8>, word: &[u8], new: &Name, old: &Name) -> Result<(), Memory>
+/// Appends the line that opens a map.
+pub fn put_map_header(out: &mut Vec<u8>) -> Result<(), Memory>
+    ensures ok { OnOk result (out.new.items ≡ out.old.items ++ line (codes "gatelift map 1" ∷ [])) }
+    ensures front { take (length out.old.items) out.new.items ≡ out.old.items }
+{
+    put(out, b"gatelift map 1\n")
+}
+
+/// Appends the line that closes a map.
+pub fn put_map_end(out: &mut Vec<u8>) -> Result<(), Memory>
+    ensures ok { OnOk result (out.new.items ≡ out.old.items ++ line (codes "end" ∷ [])) }
+    ensures front { take (length out.old.items) out.new.items ≡ out.old.items }
+{
+    put(out, b"end\n")
+}
+
+/// Appends a line of a map: a word, `device` or `net`, the new name and the old one.
+pub fn put_map_line(out: &mut Vec<u8>, word: &[u8], new: &Name, old: &Name) -> Result<(), Memory>
     ensures ok { OnOk result (out.new.items ≡ out.old.items ++ map_line word.now (new.now, old.now)) }
     ensures front { take (length out.old.items) out.new.items ≡ out.old.items }
 {
@@ -31,7 +48,7 @@ fn put_lines(out: &mut Vec<u8>, word: &[u8], names: &[(Name, Name)]) -> Result<(
     ensures front { take (length out.old.items) out.new.items ≡ out.old.items }
 {
     for (new, old) in names {
-        put_line(out, word, new, old)?;
+        put_map_line(out, word, new, old)?;
     }
     Ok(())
 }
@@ -41,10 +58,10 @@ fn put_map(out: &mut Vec<u8>, map: &NameMap) -> Result<(), Memory>
     ensures ok { OnOk result (out.new.items ≡ out.old.items ++ map_text map.now) }
     ensures front { take (length out.old.items) out.new.items ≡ out.old.items }
 {
-    put(out, b"gatelift map 1\n")?;
+    put_map_header(out)?;
     put_lines(out, b"device", map.devices())?;
     put_lines(out, b"net", map.nets())?;
-    put(out, b"end\n")
+    put_map_end(out)
 }
 
 impl NameMap {
