@@ -1,5 +1,5 @@
 -- The chosen instances of a round, as the definitions of histories tell them.
-use Rattle.std.proofs.Common.{◌≡◌, ◌+◌, ℕ, suc, List, [], ◌∷◌, ◌++◌, length, map, cond, Bool, Option, Some, None, refl, sym, ap, subst, inl, inr}
+use Rattle.std.proofs.Common.{◌≡◌, ℕ, suc, List, [], ◌∷◌, ◌++◌, length, map, cond, Bool, Option, Some, None, refl, sym, ap, subst, inl, inr}
 use Rattle.std.specs.Prelude.{◌||◌, flat_map, find, filter_map, zip}
 use Rattle.std.specs.List.{AllZip, list_any, enumerate_from}
 use Rattle.std.proofs.lemmas.Bool.{cases_Bool}
@@ -89,25 +89,25 @@ zip_long R (x ∷ xs) (y ∷ ys) h = ap suc (zip_long R xs ys h.1)
 abbrev pub HasKind : Run → Sub → ℕ → Type 0
 HasKind run cell kind = kind ≡ type_number (run_types run) (cell_type cell)
 
-module _ (run : Run) (c : Circuit) (slots : List Slot) (round : ℕ) where
+module _ (run : Run) (c : Circuit) (slots : List Slot) where
   -- of one cell
-  cell_same : (sub : Sub) (cell kind : ℕ) → HasKind run sub kind → (k : ℕ) (list : List Instance) (picks : List Pick) → AllZip (IsSame run) (filter_map (numbered.chosen_at round cell kind) (enumerate_from k (zip list picks))) (map (composite_of c slots run) (filter_map (chosen_of sub) (zip list picks)))
-  cell_same sub cell kind is k [] picks = tt
-  cell_same sub cell kind is k (i ∷ list) [] = tt
-  cell_same sub cell kind is k (i ∷ list) (Taken number ∷ picks) =
+  cell_same : (sub : Sub) (kind : ℕ) → HasKind run sub kind → (list : List Instance) (picks : List Pick) → AllZip (IsSame run) (filter_map (numbered.chosen_at kind) (zip list picks)) (map (composite_of c slots run) (filter_map (chosen_of sub) (zip list picks)))
+  cell_same sub kind is [] picks = tt
+  cell_same sub kind is (i ∷ list) [] = tt
+  cell_same sub kind is (i ∷ list) (Taken number ∷ picks) =
       let slot_for : ℕ → Slot = λ (n : ℕ). record { device = record { kind = n; nets = i.key.binding }; origin = replacement.made number } in
-      (record { set = refl; slot = ap slot_for is }, cell_same sub cell kind is (k + 1) list picks)
-  cell_same sub cell kind is k (i ∷ list) (Over number ∷ picks) = cell_same sub cell kind is (k + 1) list picks
+      (record { set = refl; slot = ap slot_for is }, cell_same sub kind is list picks)
+  cell_same sub kind is (i ∷ list) (Over number ∷ picks) = cell_same sub kind is list picks
 
   -- of all cells
   pub chosen_same : (cells : List Cell) (subs : List Sub) (found : List RoundCell) → AllZip (λ (s : Sub) (f : RoundCell). HasKind run s (numbered.kind_at cells f.cell)) subs found
-      → AllZip (IsSame run) (numbered.chosen_of round cells found) (map (composite_of c slots run) (flat_map chosen_in (zip subs (zip (map (λ (f : RoundCell). f.list) found) (map (λ (f : RoundCell). f.picks) found)))))
+      → AllZip (IsSame run) (numbered.chosen_of cells found) (map (composite_of c slots run) (flat_map chosen_in (zip subs (zip (map (λ (f : RoundCell). f.list) found) (map (λ (f : RoundCell). f.picks) found)))))
   chosen_same cells [] [] h = tt
   chosen_same cells [] (f ∷ found) h = absurd h
   chosen_same cells (s ∷ subs) [] h = absurd h
   chosen_same cells (s ∷ subs) (f ∷ found) h =
       let rest = flat_map chosen_in (zip subs (zip (map (λ (x : RoundCell). x.list) found) (map (λ (x : RoundCell). x.picks) found))) in
       let own = chosen_in (s, (f.list, f.picks)) in
-      subst (λ ds. AllZip (IsSame run) (numbered.chosen_of round cells (f ∷ found)) ds) (sym (map-append (composite_of c slots run) own rest))
-      (zip_append (IsSame run) (numbered.chosen_of_cell round cells f) (numbered.chosen_of round cells found) (map (composite_of c slots run) own) (map (composite_of c slots run) rest)
-      (cell_same s f.cell (numbered.kind_at cells f.cell) h.0 0 f.list f.picks) (chosen_same cells subs found h.1))
+      subst (λ ds. AllZip (IsSame run) (numbered.chosen_of cells (f ∷ found)) ds) (sym (map-append (composite_of c slots run) own rest))
+      (zip_append (IsSame run) (numbered.chosen_of_cell cells f) (numbered.chosen_of cells found) (map (composite_of c slots run) own) (map (composite_of c slots run) rest)
+      (cell_same s (numbered.kind_at cells f.cell) h.0 f.list f.picks) (chosen_same cells subs found h.1))

@@ -2,7 +2,7 @@
 use Rattle.std.proofs.Common.{◌≡◌, ◌+◌, ℕ, zero, suc, List, [], ◌∷◌, ◌++◌, length, map, refl, sym, ap, ◌∙◌, subst, arith}
 use Rattle.std.specs.Prelude.{zip}
 use Rattle.std.specs.List.{AllZip, enumerate_from, range_with_len}
-use Rattle.std.proofs.lemmas.List.{length-map, map-append, length-append}
+use Rattle.std.proofs.lemmas.List.{map-append, length-append}
 use Rattle.gl_text.specs.Decks.{Sub}
 use Rattle.gl_match.specs.declared.role.Pick.{Pick}
 use Rattle.gl_match.specs.Graph.{Device, Circuit, Pattern}
@@ -17,7 +17,7 @@ use Rattle.gl_history.specs.declared.origin.Origin.TheVariants.{Base}
 use Rattle.gl_match.specs.Cells.{Cell}
 use Rattle.gl_history.specs.Plain.{RoundCell, Round, Lifted, origin_value}
 use Rattle.gl_history.specs.Searching.{patterns_at, numbers_at, rounds_of}
-use Rattle.gl_history.specs.Replacing.{Chosen, chosen_of, slots_of, slots_after, kind_at}
+use Rattle.gl_history.specs.Replacing.{chosen_of, slots_of, slots_after, kind_at}
 use Rattle.gl_history.specs.Reached.{start_of, slots_behind, behind, AreFound, Reached}
 use Rattle.gl_lifting.specs.SearchedCells.{AreCells}
 use Rattle.gl_history.specs.Shown.{Shows, IsLifted}
@@ -34,7 +34,7 @@ pub record Told (run : Run) (cells : List Cell) (level : ℕ) (lifted : Lifted) 
   pub shown : AllZip (Shows run) rounds lifted.rounds
   pub last : lifted.last ≡ circuit_at run stage
   pub origins : lifted.last_origins ≡ map (λ (s : Slot). s.origin) stage.slots
-  pub composites : length lifted.composites ≡ length stage.composites
+  pub chosen : lifted.chosen ≡ length stage.composites
   pub numbers : map (λ (r : Round). map (λ (f : RoundCell). f.cell) r.cells) lifted.rounds ≡ map (λ l. numbers_at l cells) (range_with_len 0 level)
 
 -- ---- lists
@@ -83,7 +83,7 @@ told_start run cells c e = record {
   shown = tt;
   last = e ∙ sym (ap (with_devices (first_circuit run)) (devices_stay 0 (first_circuit run).devices));
   origins = ap (λ (x : Circuit). map (λ (n : ℕ × Device). base n.0) (enumerate_from 0 x.devices)) e ∙ origins_stay 0 (first_circuit run).devices;
-  composites = refl;
+  chosen = refl;
   numbers = refl;
 }
 
@@ -96,7 +96,7 @@ follow_more Said run level n stage [] last r at f is =
     (subst (λ s. IsRoundAt Said run level s r) f (subst (λ m. IsRoundAt Said run m last r) same is), ap (λ m. stage_behind run (searched_at run m) r) same)
 follow_more Said run level n stage (x ∷ rounds) last r at f is = (f.0, follow_more Said run (suc level) n (stage_behind run (searched_at run level) x) rounds last r (omega (arith, at)) f.1 is)
 
-module _ (run : Run) (cells : List Cell) (are : AreCells run cells) (level : ℕ) (before : Lifted) (found : List RoundCell) (told : Told run cells level before) (searched : AreFound before.last (suc (length before.composites)) cells level found) where
+module _ (run : Run) (cells : List Cell) (are : AreCells run cells) (level : ℕ) (before : Lifted) (found : List RoundCell) (told : Told run cells level before) (searched : AreFound before.last (suc before.chosen) cells level found) where
   -- the round of the history
   abbrev round : histories.Round
   round = record { before = told.stage; lists = map (λ (f : RoundCell). f.list) found; picks = map (λ (f : RoundCell). f.picks) found }
@@ -115,16 +115,16 @@ module _ (run : Run) (cells : List Cell) (are : AreCells run cells) (level : ℕ
       let by_number : AllZip (λ (s : Sub) (n : ℕ). HasKind run s (kind_at cells n)) subs (numbers_at level cells) = subst (λ (cs : List Cell). AllZip (λ (s : Sub) (n : ℕ). HasKind run s (kind_at cs n)) subs (numbers_at level cs)) (sym are.each) (numbers_are run level zs) in
       zip_shown (λ (s : Sub) (n : ℕ). HasKind run s (kind_at cells n)) (λ (f : RoundCell). f.cell) subs found (subst (λ ns. AllZip (λ (s : Sub) (n : ℕ). HasKind run s (kind_at cells n)) subs ns) (sym searched.numbers) by_number)
 
-  same : AllZip (IsSame run) (chosen_of level cells found) new
-  same = chosen_same run (circuit_at run told.stage) told.stage.slots level cells subs found kinds
+  same : AllZip (IsSame run) (chosen_of cells found) new
+  same = chosen_same run (circuit_at run told.stage) told.stage.slots cells subs found kinds
 
   -- the slots behind the round are those of the history
-  slots_are : slots_behind level cells before found ≡ replaced run new told.stage.slots
+  slots_are : slots_behind cells before found ≡ replaced run new told.stage.slots
   slots_are =
-      ap (λ (c : Circuit). slots_after (chosen_of level cells found) (slots_of c.devices before.last_origins)) told.last
-      ∙ ap (λ os. slots_after (chosen_of level cells found) (slots_of (map (λ (s : Slot). s.device) told.stage.slots) os)) told.origins
-      ∙ ap (slots_after (chosen_of level cells found)) (together told.stage.slots)
-      ∙ slots_same run (chosen_of level cells found) new told.stage.slots same
+      ap (λ (c : Circuit). slots_after (chosen_of cells found) (slots_of c.devices before.last_origins)) told.last
+      ∙ ap (λ os. slots_after (chosen_of cells found) (slots_of (map (λ (s : Slot). s.device) told.stage.slots) os)) told.origins
+      ∙ ap (slots_after (chosen_of cells found)) (together told.stage.slots)
+      ∙ slots_same run (chosen_of cells found) new told.stage.slots same
 
   -- this is said of the round
   said : IsRound (circuit_at run told.stage) (suc (length told.stage.composites)) (map (pattern_in run) subs) round.lists round.picks
@@ -132,10 +132,10 @@ module _ (run : Run) (cells : List Cell) (are : AreCells run cells) (level : ℕ
       let zs = zip run.library.deck.subs run.library.cells in
       let patterns : patterns_at level cells ≡ map (pattern_in run) subs = ap (patterns_at level) are.each ∙ patterns_are run level zs in
       subst (λ c. IsRound c (suc (length told.stage.composites)) (map (pattern_in run) subs) round.lists round.picks) told.last
-      (subst (λ n. IsRound before.last (suc n) (map (pattern_in run) subs) round.lists round.picks) told.composites
-      (subst (λ ps. IsRound before.last (suc (length before.composites)) ps round.lists round.picks) patterns searched.round))
+      (subst (λ n. IsRound before.last (suc n) (map (pattern_in run) subs) round.lists round.picks) told.chosen
+      (subst (λ ps. IsRound before.last (suc before.chosen) ps round.lists round.picks) patterns searched.round))
 
-  told_next : Told run cells (suc level) (behind level cells before found)
+  told_next : Told run cells (suc level) (behind cells before found)
   told_next = record {
     rounds = told.rounds ++ round ∷ [];
     stage = stage_behind run subs round;
@@ -144,7 +144,7 @@ module _ (run : Run) (cells : List Cell) (are : AreCells run cells) (level : ℕ
     shown = zip_more (Shows run) told.rounds before.rounds round (record { circuit = before.last; origins = before.last_origins; cells = found }) told.shown (record { circuit = told.last; origins = told.origins; lists = refl; picks = refl });
     last = (λ i. with_devices (told.last i) (map (λ (s : Slot). s.device) (slots_are i)));
     origins = ap (map (λ (s : Slot). s.origin)) slots_are;
-    composites = omega (arith, told.composites, length-append before.composites (map (λ (c : Chosen). c.composite) (chosen_of level cells found)), length-map (chosen_of level cells found) (λ (c : Chosen). c.composite), length-append told.stage.composites new, zip_long (IsSame run) (chosen_of level cells found) new same);
+    chosen = omega (arith, told.chosen, length-append told.stage.composites new, zip_long (IsSame run) (chosen_of cells found) new same);
     numbers = map-append (λ (r : Round). map (λ (f : RoundCell). f.cell) r.cells) before.rounds (record { circuit = before.last; origins = before.last_origins; cells = found } ∷ [])
         ∙ (λ i. told.numbers i ++ searched.numbers i ∷ [])
         ∙ sym (map-append (λ l. numbers_at l cells) (range_with_len 0 level) (level ∷ []))
@@ -170,6 +170,6 @@ history_shown run cells c lifted e are h =
       rounds = told.shown;
       last = told.last;
       last_origins = told.origins;
-      composites = told.composites;
+      chosen = told.chosen;
       numbers = told.numbers;
     }

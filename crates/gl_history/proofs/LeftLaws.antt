@@ -8,7 +8,6 @@ use Rattle.gl_match.specs.Graph.{Circuit, Pattern}
 use Rattle.gl_match.specs.Listing.{Instance}
 use Rattle.gl_match.specs.Choice.{sets_of, sets_in}
 use Rattle.gl_round.proofs.KeysBelow.{lists_below}
-use Rattle.gl_history.specs.declared.composite.Composite.{Composite}
 use Rattle.gl_history.specs.declared.fate.Fate.{Fate}
 use Rattle.gl_match.specs.Cells.{Cell}
 use Rattle.gl_history.specs.Plain.{RoundCell}
@@ -59,9 +58,9 @@ module _ (c : Circuit) (first level : ℕ) (cells : List Cell) (found : List Rou
   picked = picks_fit found are.round.choice.as_many
 
 -- all that is marked leads to a chosen instance
-pub all_within : (chosen : List Chosen) (fates : List Fate) (slots made : List Slot) (cs : List Composite) → IsMarked chosen fates slots cs → made ≡ slots → All (IsWithin (length made)) fates
-all_within chosen fates slots made cs m same k d lt =
-    subst (λ (ms : List Slot). IsWithin (length ms) (get_or fates k d)) (sym same) (subst (IsWithin (length slots)) (any fates k d lt) (marked_within chosen fates slots cs m k))
+pub all_within : (chosen : List Chosen) (fates : List Fate) (slots made : List Slot) → IsMarked chosen fates slots → made ≡ slots → All (IsWithin (length made)) fates
+all_within chosen fates slots made m same k d lt =
+    subst (λ (ms : List Slot). IsWithin (length ms) (get_or fates k d)) (sym same) (subst (IsWithin (length slots)) (any fates k d lt) (marked_within chosen fates slots m k))
   where
     any : (fs : List Fate) (j : ℕ) (e : Fate) → j < length fs → fate_at fs j ≡ get_or fs j e
     any [] j e below = absurd (omega (arith, below))

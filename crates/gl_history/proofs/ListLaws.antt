@@ -5,7 +5,7 @@ use Rattle.std.specs.List.{enumerate_from}
 use Rattle.std.proofs.lemmas.List.{take_more, append-nil}
 use Rattle.std.proofs.lemmas.List.Elements.{filter_map-append}
 use Rattle.std.proofs.lemmas.List.FromFn.{get_or-enumerate_from}
-use Rattle.std.proofs.lemmas.Slice.Zip.{get_or-zip, length-zip}
+use Rattle.std.proofs.lemmas.Slice.Zip.{get_or-zip}
 use Rattle.std.proofs.lemmas.Grind.{flat_map-append}
 use Rattle.std.proofs.Math.Seq.{drop-cons, drop-length}
 
@@ -43,10 +43,9 @@ from_here xs k n x lt next is =
 pub numbered_at : {X : Type 0} (xs : List X) (i : ℕ) (x : X) → i < length xs → x ≡ get_or xs i x → (i, x) ≡ get_or (enumerate_from 0 xs) i (i, x)
 numbered_at xs i x lt is = ap (λ y. (i, y)) is ∙ ap (λ n. (n, get_or xs i x)) (omega arith) ∙ sym (get_or-enumerate_from 0 xs i (i, x) lt)
 
--- and so is a numbered pair
-pub numbered_pair : {X Y : Type 0} (xs : List X) (ys : List Y) (i : ℕ) (x : X) (y : Y) → i < length xs → i < length ys → x ≡ get_or xs i x → y ≡ get_or ys i y → (i, (x, y)) ≡ get_or (enumerate_from 0 (zip xs ys)) i (i, (x, y))
-numbered_pair xs ys i x y lt lu is it =
-    numbered_at (zip xs ys) i (x, y) (omega (arith, length-zip xs ys, lt, lu)) ((λ k. (is k, it k)) ∙ sym (get_or-zip xs ys i (x, y) lt lu))
+-- and so is a pair
+pub paired_at : {X Y : Type 0} (xs : List X) (ys : List Y) (i : ℕ) (x : X) (y : Y) → i < length xs → i < length ys → x ≡ get_or xs i x → y ≡ get_or ys i y → (x, y) ≡ get_or (zip xs ys) i (x, y)
+paired_at xs ys i x y lt lu is it = (λ k. (is k, it k)) ∙ sym (get_or-zip xs ys i (x, y) lt lu)
 
 -- ---- flat
 

@@ -6,7 +6,6 @@ use Rattle.std.proofs.lemmas.Bool.{cases_Bool}
 use Rattle.std.proofs.lemmas.List.{length-map, map-append, length-append}
 use Rattle.gl_match.specs.Graph.{is_in}
 use Rattle.gl_lifting.specs.Replacement.{Slot, is_lowest}
-use Rattle.gl_history.specs.declared.composite.Composite.{Composite}
 use Rattle.gl_history.specs.declared.fate.Fate.{Fate}
 use Rattle.gl_history.specs.declared.fate.Fate.TheVariants.{Stays, Goes, Becomes}
 use Rattle.gl_history.specs.Replacing.{Chosen, slot_by, slots_at, slots_after}
@@ -28,14 +27,13 @@ fate_more dev index (s ∷ sets) set f =
     fate_more dev (index + 1) sets set (fate_by dev s index f) ∙ ap (λ i. fate_by dev set i (fate_from dev (index + 1) sets (fate_by dev s index f))) (omega arith)
 
 -- one chosen instance more
-pub marked_more : (before : List Chosen) (c : Chosen) (fates marked : List Fate) (slots slots_next : List Slot) (cs cs_next : List Composite) (index : ℕ) → IsMarked before fates slots cs → index ≡ length slots
-    → ((dev : ℕ) → fate_at marked dev ≡ fate_by dev c.set index (fate_at fates dev)) → slots_next ≡ slots ++ c.slot ∷ [] → cs_next ≡ cs ++ c.composite ∷ [] → IsMarked (before ++ c ∷ []) marked slots_next cs_next
-marked_more before c fates marked slots slots_next cs cs_next index m at given s q = record {
+pub marked_more : (before : List Chosen) (c : Chosen) (fates marked : List Fate) (slots slots_next : List Slot) (index : ℕ) → IsMarked before fates slots → index ≡ length slots
+    → ((dev : ℕ) → fate_at marked dev ≡ fate_by dev c.set index (fate_at fates dev)) → slots_next ≡ slots ++ c.slot ∷ [] → IsMarked (before ++ c ∷ []) marked slots_next
+marked_more before c fates marked slots slots_next index m at given s = record {
   fates_are = λ dev.
       let count : index ≡ 0 + length (sets_of before) = omega (arith, at, ap length m.slots_are, length-map before (λ (x : Chosen). x.slot), length-map before (λ (x : Chosen). x.set)) in
       given dev ∙ ap (λ f. fate_by dev c.set index f) (m.fates_are dev) ∙ ap (λ i. fate_by dev c.set i (fate_from dev 0 (sets_of before) Stays)) count ∙ sym (fate_more dev 0 (sets_of before) c.set Stays) ∙ ap (λ ss. fate_from dev 0 ss Stays) (sym (map-append (λ (x : Chosen). x.set) before (c ∷ [])));
   slots_are = s ∙ ap (λ xs. xs ++ c.slot ∷ []) m.slots_are ∙ sym (map-append (λ (x : Chosen). x.slot) before (c ∷ []));
-  composites_are = q ∙ ap (λ xs. xs ++ c.composite ∷ []) m.composites_are ∙ sym (map-append (λ (x : Chosen). x.composite) before (c ∷ []));
 }
 
 -- ---- what becomes of a device
@@ -139,8 +137,8 @@ within_from dev index (set ∷ sets) f h =
     subst (λ n. IsWithin n (fate_from dev (index + 1) sets (fate_by dev set index f))) (omega arith) (within_from dev (index + 1) sets (fate_by dev set index f) (within_by index (is_lowest dev set) (is_in set dev) f h))
 
 -- all that is marked leads to a chosen instance
-pub marked_within : (chosen : List Chosen) (fates : List Fate) (slots : List Slot) (cs : List Composite) → IsMarked chosen fates slots cs → (dev : ℕ) → IsWithin (length slots) (fate_at fates dev)
-marked_within chosen fates slots cs m dev =
+pub marked_within : (chosen : List Chosen) (fates : List Fate) (slots : List Slot) → IsMarked chosen fates slots → (dev : ℕ) → IsWithin (length slots) (fate_at fates dev)
+marked_within chosen fates slots m dev =
     let count : 0 + length (sets_of chosen) ≡ length slots = omega (arith, ap length m.slots_are, length-map chosen (λ (x : Chosen). x.slot), length-map chosen (λ (x : Chosen). x.set)) in
     subst (λ f. IsWithin (length slots) f) (sym (m.fates_are dev)) (subst (λ n. IsWithin n (fate_from dev 0 (sets_of chosen) Stays)) count (within_from dev 0 (sets_of chosen) Stays tt))
 
@@ -155,7 +153,7 @@ places_from chosen k (s ∷ slots) (f ∷ fates) long h =
     (λ i. here i ++ later i)
 
 -- the slots that fates tell are those behind the round
-pub slots_are_after : (chosen : List Chosen) (slots made : List Slot) (fates : List Fate) (cs : List Composite) → length fates ≡ length slots → IsMarked chosen fates made cs → all_slots_by made slots fates ≡ slots_after chosen slots
-slots_are_after chosen slots made fates cs long m =
+pub slots_are_after : (chosen : List Chosen) (slots made : List Slot) (fates : List Fate) → length fates ≡ length slots → IsMarked chosen fates made → all_slots_by made slots fates ≡ slots_after chosen slots
+slots_are_after chosen slots made fates long m =
     ap (λ ms. all_slots_by ms slots fates) m.slots_are
     ∙ places_from chosen 0 slots fates long (λ dev lt. m.fates_are dev ∙ ap (λ n. fate_from n 0 (sets_of chosen) Stays) (omega arith))

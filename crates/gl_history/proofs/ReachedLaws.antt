@@ -40,13 +40,13 @@ module _ (cells : List Cell) (level : ℕ) (before after : Lifted) (step : IsSte
   -- cells can be searched behind the round too
   pub cells_kept : All (IsForCircuit before.last) cells → All (IsForCircuit after.last) cells
   cells_kept h =
-      let ds = map (λ (s : Slot). s.device) (slots_behind level cells before step.found) in
+      let ds = map (λ (s : Slot). s.device) (slots_behind cells before step.found) in
       subst (λ (l : Lifted). All (IsForCircuit l.last) cells) (sym step.after_is) (All-weaker (IsForCircuit before.last) (IsForCircuit (with_devices before.last ds)) (cell_kept before.last ds) cells h)
 
   -- there is an origin for each device
   pub origins_kept : length after.last_origins ≡ length after.last.devices
   origins_kept =
-      let slots = slots_behind level cells before step.found in
+      let slots = slots_behind cells before step.found in
       subst (λ (l : Lifted). length l.last_origins ≡ length l.last.devices) (sym step.after_is) (length-map slots (λ (s : Slot). s.origin) ∙ sym (length-map slots (λ (s : Slot). s.device)))
 
 -- ---- the start

@@ -123,25 +123,25 @@ searched_for c level all k (cell ∷ cells) h fit = by (eqb cell.level level) ce
     by true (Some p) e f fits later = rw e (rw f (record { kind_in = subst (λ n. n < length c.shapes) (sym first) own; ports_fit = subst (λ n. HasPorts c n p) (sym first) fits }, later))
 
 -- the slots of what was chosen of a cell
-cell_good : (c : Circuit) (round cell kind : ℕ) (p : Pattern) → IsBuilt c → IsFor c kind p → (k : ℕ) (list : List Instance) (picks : List Pick) → All (IsInstance c p) list
-    → AllByRecursion (λ (x : Chosen). IsGood c x.slot) (filter_map (chosen_at round cell kind) (enumerate_from k (zip list picks)))
-cell_good c round cell kind p built for_it k [] picks h = tt
-cell_good c round cell kind p built for_it k (i ∷ list) [] h = tt
-cell_good c round cell kind p built for_it k (i ∷ list) (Taken number ∷ picks) h =
+cell_good : (c : Circuit) (kind : ℕ) (p : Pattern) → IsBuilt c → IsFor c kind p → (list : List Instance) (picks : List Pick) → All (IsInstance c p) list
+    → AllByRecursion (λ (x : Chosen). IsGood c x.slot) (filter_map (chosen_at kind) (zip list picks))
+cell_good c kind p built for_it [] picks h = tt
+cell_good c kind p built for_it (i ∷ list) [] h = tt
+cell_good c kind p built for_it (i ∷ list) (Taken number ∷ picks) h =
     let ports = for_it.ports_fit in
     let binding = bound c p i built ports.built ports.fits (All-head (IsInstance c p) i list h) in
-    (record { kind = for_it.kind_in; places = binding.places ∙ ports.ports; below = binding.below }, cell_good c round cell kind p built for_it (k + 1) list picks (All-tail (IsInstance c p) i list h))
-cell_good c round cell kind p built for_it k (i ∷ list) (Over number ∷ picks) h = cell_good c round cell kind p built for_it (k + 1) list picks (All-tail (IsInstance c p) i list h)
+    (record { kind = for_it.kind_in; places = binding.places ∙ ports.ports; below = binding.below }, cell_good c kind p built for_it list picks (All-tail (IsInstance c p) i list h))
+cell_good c kind p built for_it (i ∷ list) (Over number ∷ picks) h = cell_good c kind p built for_it list picks (All-tail (IsInstance c p) i list h)
 
 -- and of all cells
-chosen_good : (c : Circuit) (round : ℕ) (cells : List Cell) (patterns : List Pattern) (found : List RoundCell) → IsBuilt c → AllZip (λ n p. IsFor c (kind_at cells n) p) (map (λ (f : RoundCell). f.cell) found) patterns
-    → AllZip (Listed c) patterns (map (λ (f : RoundCell). f.list) found) → AllByRecursion (λ (x : Chosen). IsGood c x.slot) (chosen_of round cells found)
-chosen_good c round cells [] [] built h k = tt
-chosen_good c round cells [] (f ∷ found) built h k = absurd k
-chosen_good c round cells (p ∷ patterns) [] built h k = absurd k
-chosen_good c round cells (p ∷ patterns) (f ∷ found) built h k =
-    each_append (λ (x : Chosen). IsGood c x.slot) (chosen_of_cell round cells f) (chosen_of round cells found)
-    (cell_good c round f.cell (kind_at cells f.cell) p built h.0 0 f.list f.picks k.0.each) (chosen_good c round cells patterns found built h.1 k.1)
+chosen_good : (c : Circuit) (cells : List Cell) (patterns : List Pattern) (found : List RoundCell) → IsBuilt c → AllZip (λ n p. IsFor c (kind_at cells n) p) (map (λ (f : RoundCell). f.cell) found) patterns
+    → AllZip (Listed c) patterns (map (λ (f : RoundCell). f.list) found) → AllByRecursion (λ (x : Chosen). IsGood c x.slot) (chosen_of cells found)
+chosen_good c cells [] [] built h k = tt
+chosen_good c cells [] (f ∷ found) built h k = absurd k
+chosen_good c cells (p ∷ patterns) [] built h k = absurd k
+chosen_good c cells (p ∷ patterns) (f ∷ found) built h k =
+    each_append (λ (x : Chosen). IsGood c x.slot) (chosen_of_cell cells f) (chosen_of cells found)
+    (cell_good c (kind_at cells f.cell) p built h.0 f.list f.picks k.0.each) (chosen_good c cells patterns found built h.1 k.1)
 
 -- ---- all that stands behind
 
@@ -183,14 +183,14 @@ circuit_good c (d ∷ ds) (o ∷ os) h = (h 0 d (omega arith), circuit_good c ds
 
 -- the circuit behind a round is not refused
 pub behind_unrefused : (level first : ℕ) (cells : List Cell) (before : Lifted) (found : List RoundCell) → IsBuilt before.last → All (IsForCircuit before.last) cells → AreFound before.last first cells level found
-    → circuit_fault (with_devices before.last (map (λ (s : Slot). s.device) (slots_behind level cells before found))) ≡ None
+    → circuit_fault (with_devices before.last (map (λ (s : Slot). s.device) (slots_behind cells before found))) ≡ None
 behind_unrefused level first cells before found built fit are =
     let c = before.last in
     let for_all = searched_for c level cells 0 cells (λ j d lt. kinds cells j d lt) fit in
-    let chosen = chosen_good c level cells (patterns_at level cells) found built (subst (λ ns. AllZip (λ n p. IsFor c (kind_at cells n) p) ns (patterns_at level cells)) (sym are.numbers) for_all) are.round.complete in
+    let chosen = chosen_good c cells (patterns_at level cells) found built (subst (λ ns. AllZip (λ n p. IsFor c (kind_at cells n) p) ns (patterns_at level cells)) (sym are.numbers) for_all) are.round.complete in
     let old = circuit_good c c.devices before.last_origins (λ k d lt. let shape = built.devices k d lt in record { kind = shape.kind; places = shape.places; below = built.nets k d lt }) in
-    let slots = behind_good (IsGood c) (chosen_of level cells found) chosen 0 (slots_of c.devices before.last_origins) old in
-    others_good c built (map (λ (s : Slot). s.device) (slots_behind level cells before found)) (read_each c.shapes c.nets (slots_behind level cells before found) slots)
+    let slots = behind_good (IsGood c) (chosen_of cells found) chosen 0 (slots_of c.devices before.last_origins) old in
+    others_good c built (map (λ (s : Slot). s.device) (slots_behind cells before found)) (read_each c.shapes c.nets (slots_behind cells before found) slots)
   where
     kinds : (cs : List Cell) (j : ℕ) (d : Cell) → j < length cs → kind_at cs (0 + j) ≡ (get_or cs j d).kind
     kinds [] j d lt = absurd (omega (arith, lt))

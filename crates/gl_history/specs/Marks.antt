@@ -4,10 +4,8 @@ use Rattle.gl_match.specs.Graph.{is_in}
 use Rattle.gl_match.specs.Listing.{Instance}
 use Rattle.gl_lifting.specs.Replacement.{Slot, made, is_lowest}
 use Rattle.gl_history.specs.Replacing.{Chosen, chosen_at}
-use Rattle.gl_history.specs.declared.composite.Composite.{Composite}
 use Rattle.gl_match.specs.declared.role.Pick.{Pick}
 use Rattle.gl_history.specs.declared.marks.Marks.{Marks}
-use Rattle.gl_history.specs.declared.marks.Site.{Site}
 use Rattle.gl_history.specs.declared.fate.Fate.{Fate}
 use Rattle.gl_history.specs.declared.fate.Fate.TheVariants.{Stays, Goes, Becomes}
 
@@ -36,15 +34,14 @@ abbrev pub fate_from : ℕ → ℕ → List (List ℕ) → Fate → Fate
 fate_from dev index [] fate = fate
 fate_from dev index (set ∷ sets) fate = fate_from dev (index + 1) sets (fate_by dev set index fate)
 
--- the fates are those that chosen instances give, and the slots and composites are theirs
-pub record IsMarked (chosen : List Chosen) (fates : List Fate) (slots : List Slot) (composites : List Composite) : Type 0 where
+-- the fates are those that chosen instances give, and the slots are theirs
+pub record IsMarked (chosen : List Chosen) (fates : List Fate) (slots : List Slot) : Type 0 where
   pub fates_are : (dev : ℕ) → fate_at fates dev ≡ fate_from dev 0 (map (λ (c : Chosen). c.set) chosen) Stays
   pub slots_are : slots ≡ map (λ (c : Chosen). c.slot) chosen
-  pub composites_are : composites ≡ map (λ (c : Chosen). c.composite) chosen
 
 -- what is marked is what chosen instances give
 abbrev pub Holds : Marks → List Chosen → Type 0
-Holds marks chosen = IsMarked chosen marks.fates.items marks.slots.items marks.composites.items
+Holds marks chosen = IsMarked chosen marks.fates.items marks.slots.items
 
 -- all devices of some instances are below a number
 abbrev pub AreBelow : ℕ → List Instance → Type 0
@@ -54,9 +51,9 @@ AreBelow n list = All (λ (i : Instance). All (λ dev. dev < n) i.key.set) list
 abbrev pub made_slot : ℕ → ℕ → List ℕ → Slot
 made_slot kind number binding = record { device = record { kind = kind; nets = binding }; origin = made number }
 
--- those of a cell's numbered instances that are chosen
-abbrev pub chosen_among : Site → List (ℕ × (Instance × Pick)) → List Chosen
-chosen_among site numbered = filter_map (chosen_at site.round site.cell site.kind) numbered
+-- those of a cell's instances that are chosen, by the type of the devices that stand for them
+abbrev pub chosen_among : ℕ → List (Instance × Pick) → List Chosen
+chosen_among kind picked = filter_map (chosen_at kind) picked
 
 -- a fate that leads to a chosen instance leads to one of so many
 abbrev pub IsWithin : ℕ → Fate → Type 0

@@ -4,7 +4,6 @@ use Rattle.gl_match.specs.declared.role.Pick.{Pick}
 use Rattle.gl_match.specs.Graph.{Circuit}
 use Rattle.gl_match.specs.Listing.{Instance}
 use Rattle.gl_lifting.specs.Replacement as replacement
-use Rattle.gl_history.specs.declared.composite.Composite.{Composite}
 use Rattle.gl_history.specs.declared.origin.Origin as declared
 use Rattle.gl_history.specs.declared.origin.Origin.TheVariants.{Base, Made}
 
@@ -24,12 +23,12 @@ pub record Round : Type 0 where
   pub origins : List replacement.Origin
   pub cells : List RoundCell
 
--- all rounds, the circuit that they leave with the origins of its devices, and the composites in the order of their numbers
+-- all rounds, the circuit that they leave with the origins of its devices, and how many instances are chosen in all of them
 pub record Lifted : Type 0 where
   pub rounds : List Round
   pub last : Circuit
   pub last_origins : List replacement.Origin
-  pub composites : List Composite
+  pub chosen : ℕ
 
 -- where a device comes from, as the definitions of replacement say it
 abbrev pub origin_value : declared.Origin → replacement.Origin

@@ -8,33 +8,30 @@ use Rattle.gl_match.specs.Choice.{chosen_number}
 use Rattle.gl_lifting.specs.Replacement.{Origin, made, Slot, is_lowest}
 use Rattle.gl_match.specs.Cells.{Cell}
 use Rattle.gl_history.specs.Plain.{RoundCell}
-use Rattle.gl_history.specs.declared.composite.Composite.{Composite}
 
--- a chosen instance: its devices, the device that takes their place, and where it was found
+-- a chosen instance: its devices, and the device that takes their place
 pub record Chosen : Type 0 where
   pub set : List ℕ
   pub slot : Slot
-  pub composite : Composite
 
 -- the type of the devices that stand for the instances of a cell
 abbrev pub kind_at : List Cell → ℕ → ℕ
 kind_at cells cell = slice_index_or (map (λ (c : Cell). c.kind) cells) cell 0
 
--- an instance that was found in a round, if it is chosen
-abbrev pub chosen_at : ℕ → ℕ → ℕ → ℕ × (Instance × Pick) → Option Chosen
-chosen_at round cell kind n = option_map (λ number. record {
-  set = n.1.0.key.set;
-  slot = record { device = record { kind = kind; nets = n.1.0.key.binding }; origin = made number };
-  composite = record { cell = cell; round = round; item = n.0 };
-}) (chosen_number n.1.1)
+-- an instance of a cell, if it is chosen, by the type of the devices that stand for it
+abbrev pub chosen_at : ℕ → Instance × Pick → Option Chosen
+chosen_at kind i = option_map (λ number. record {
+  set = i.0.key.set;
+  slot = record { device = record { kind = kind; nets = i.0.key.binding }; origin = made number };
+}) (chosen_number i.1)
 
 -- the chosen instances of a cell, in the order of its list
-abbrev pub chosen_of_cell : ℕ → List Cell → RoundCell → List Chosen
-chosen_of_cell round cells found = filter_map (chosen_at round found.cell (kind_at cells found.cell)) (enumerate_from 0 (zip found.list found.picks))
+abbrev pub chosen_of_cell : List Cell → RoundCell → List Chosen
+chosen_of_cell cells found = filter_map (chosen_at (kind_at cells found.cell)) (zip found.list found.picks)
 
 -- the chosen instances of a round, cell by cell
-abbrev pub chosen_of : ℕ → List Cell → List RoundCell → List Chosen
-chosen_of round cells found = flat_map (chosen_of_cell round cells) found
+abbrev pub chosen_of : List Cell → List RoundCell → List Chosen
+chosen_of cells found = flat_map (chosen_of_cell cells) found
 
 -- what stands at a place, by the chosen instance that takes it, and whether a chosen one had the device that stood there
 abbrev pub slot_by : Option Chosen → Bool → Slot → List Slot

@@ -15,12 +15,12 @@ pub record Shows (run : Run) (told : histories.Round) (shown : Round) : Type 0 w
   pub lists : map (λ (f : RoundCell). f.list) shown.cells ≡ told.lists
   pub picks : map (λ (f : RoundCell). f.picks) shown.cells ≡ told.picks
 
--- there is a history of the run, and the rounds, the last circuit with its origins and the number of composites are those of the history
+-- there is a history of the run, the rounds and the last circuit with its origins are those of the history, and as many instances are chosen as it has composites
 pub record IsLifted (run : Run) (cells : List Cell) (lifted : Lifted) : Type 0 where
   pub history : histories.History
   pub is_history : histories.IsHistory run history
   pub rounds : AllZip (Shows run) history.rounds lifted.rounds
   pub last : lifted.last ≡ histories.circuit_at run history.last
   pub last_origins : lifted.last_origins ≡ map (λ (s : Slot). s.origin) history.last.slots
-  pub composites : length lifted.composites ≡ length history.last.composites
+  pub chosen : lifted.chosen ≡ length history.last.composites
   pub numbers : map (λ (r : Round). map (λ (f : RoundCell). f.cell) r.cells) lifted.rounds ≡ map (λ level. numbers_at level cells) (range_with_len 0 (rounds_of cells))

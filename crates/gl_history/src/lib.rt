@@ -2,7 +2,6 @@
 #![tactic(auto)]
 
 mod circuit;
-mod composite;
 mod fate;
 mod finding;
 mod laws;
@@ -15,7 +14,6 @@ mod round;
 mod searching;
 mod slot;
 
-pub use composite::Composite;
 pub use gl_graph::Cell;
 pub use gl_legal::CellList;
 pub use gl_match::{Memory, Pick};

@@ -1,11 +1,10 @@
-ghost use Rattle.std.specs.Prelude.{◌≡◌, ℕ, suc, length, map, All, IfOk};
+ghost use Rattle.std.specs.Prelude.{◌≡◌, ◌+◌, ℕ, suc, length, map, All, IfOk};
 ghost use Rattle.std.specs.List.{range_with_len};
 ghost use Rattle.gl_lifting.specs.Replacement.{base as base_origin};
 ghost use Rattle.gl_lifting.specs.Runs.{Run, first_circuit};
 ghost use Rattle.gl_history.specs.Plain.{origin_value};
 ghost use Rattle.gl_graph.specs.FitCells.{IsForCircuit};
 ghost use Rattle.gl_history.specs.Searching.{rounds_of as rounds_by};
-ghost use Rattle.gl_history.specs.Replacing.{Chosen, chosen_of};
 ghost use Rattle.gl_history.specs.Reached.{start_of, AreFound, behind, IsStep, Reached};
 ghost use Rattle.gl_lifting.specs.SearchedCells.{AreCells};
 ghost use Rattle.gl_history.specs.Shown.{IsLifted};
@@ -15,7 +14,7 @@ use crate::finding::find;
 use crate::marks::{Marks, add_round};
 use crate::replacing::{replace_slots, taken_apart};
 use crate::searching::count_rounds;
-use crate::{Cell, Composite, Lifted, Origin, Round, RoundCell};
+use crate::{Cell, Lifted, Origin, Round, RoundCell};
 use gl_graph::{Circuit, DevId, NetId};
 use gl_match::Memory;
 use std::alloc::Global;
@@ -45,26 +44,39 @@ fn start(alloc: Global, base: Circuit) -> Result<Lifted, Memory>
         rounds: Vec::new(alloc),
         last: base,
         last_origins,
-        composites: Vec::new(alloc),
+        chosen: 0,
     })
 }
 
 /// The number behind so many.
-fn next_number(count: usize) -> Result<u32, Memory>
+fn next_number(count: u32) -> Result<u32, Memory>
     ensures next { IfOk result (λ number. number ≡ suc count) }
 {
-    match u32::try_from(count) {
-        Ok(count) if count < u32::MAX => Ok(count + 1),
-        _ => Err(Memory),
+    match count.checked_add(1) {
+        Some(number) => Ok(number),
+        None => Err(Memory),
     }
 }
 
-/// What a round leaves: its circuit with the chosen instances in place, where each device comes from, and where the chosen ones were found.
+/// So many, and others.
+fn and_others(count: u32, others: usize) -> Result<u32, Memory>
+    ensures sum { IfOk result (λ sum. sum ≡ count + others) }
+{
+    let Ok(others) = u32::try_from(others) else {
+        return Err(Memory);
+    };
+    match count.checked_add(others) {
+        Some(sum) => Ok(sum),
+        None => Err(Memory),
+    }
+}
+
+/// What a round leaves: its circuit with the chosen instances in place, where each device comes from, and how many are chosen so far.
 #[derive(Drop)]
 struct Left {
     circuit: Circuit,
     origins: Vec<Origin>,
-    composites: Vec<Composite>,
+    chosen: u32,
 }
 
 /// What is left behind a round.
@@ -73,24 +85,23 @@ fn left_by(
     before: &Lifted,
     pinned: &[NetId],
     cells: &[Cell],
-    level: u32,
     found: &[RoundCell],
 ) -> Result<Left, Memory>
     requires pinned { before.now.last.pinned ≡ pinned.now }
     requires cells { All (IsForCircuit before.now.last) cells.now }
     requires origins { length before.now.last_origins ≡ length before.now.last.devices }
-    requires found { AreFound before.now.last (suc (length before.now.composites))
+    requires found { (level : ℕ) × AreFound before.now.last (suc before.now.chosen)
         cells.now level found.now }
     ensures circuit { IfOk result (λ left. left.circuit
-        ≡ (behind level cells.now before.now found.now).last) }
+        ≡ (behind cells.now before.now found.now).last) }
     ensures origins { IfOk result (λ left. map origin_value left.origins.items
-        ≡ (behind level cells.now before.now found.now).last_origins) }
-    ensures composites { IfOk result (λ left. left.composites.items
-        ≡ map (λ (c : Chosen). c.composite) (chosen_of level cells.now found.now)) }
+        ≡ (behind cells.now before.now found.now).last_origins) }
+    ensures chosen { IfOk result (λ left. left.chosen
+        ≡ (behind cells.now before.now found.now).chosen) }
 {
     let circuit = &before.last;
     let mut marks = Marks::none(alloc, circuit.devices())?;
-    add_round(alloc, &mut marks, level, cells, found)?;
+    add_round(alloc, &mut marks, cells, found)?;
     let slots = replace_slots(
         alloc,
         circuit,
@@ -102,7 +113,7 @@ fn left_by(
     Ok(Left {
         circuit: with_devices(alloc, circuit, pinned, parts.devices)?,
         origins: parts.origins,
-        composites: marks.composites,
+        chosen: and_others(before.chosen, marks.slots.len())?,
     })
 }
 
@@ -119,26 +130,25 @@ fn lift_level(
     requires origins { length before.last_origins ≡ length before.last.devices }
     ensures step { IfOk result (λ after. IsStep cells.now level before after) }
 {
-    let first = next_number(before.composites.len())?;
+    let first = next_number(before.chosen)?;
     let found = find(alloc, &before.last, cells, level, first)?;
-    let left = left_by(alloc, &before, pinned, cells, level, &found)?;
+    let left = left_by(alloc, &before, pinned, cells, &found)?;
     let Lifted {
         mut rounds,
         last,
         last_origins,
-        mut composites,
+        ..
     } = before;
     rounds.push(Round {
         circuit: last,
         origins: last_origins,
         cells: found,
     })?;
-    composites.extend_from_slice(&left.composites)?;
     Ok(Lifted {
         rounds,
         last: left.circuit,
         last_origins: left.origins,
-        composites,
+        chosen: left.chosen,
     })
 }
 

@@ -1,4 +1,4 @@
-use crate::{Composite, Origin, Round};
+use crate::{Origin, Round};
 use gl_graph::Circuit;
 use std::marker::Model;
 
@@ -11,8 +11,8 @@ pub struct Lifted {
     pub last: Circuit,
     /// Where each of its devices comes from.
     pub last_origins: Vec<Origin>,
-    /// Where each chosen instance was found, in the order of the numbers.
-    pub composites: Vec<Composite>,
+    /// How many instances are chosen in all rounds.
+    pub chosen: u32,
 }
 
 impl Model for Lifted {
@@ -25,6 +25,6 @@ impl Model for Lifted {
       rounds = l.rounds.items;
       last = l.last;
       last_origins = map origin_value l.last_origins.items;
-      composites = l.composites.items;
+      chosen = l.chosen;
     } };
 }

@@ -1,13 +1,13 @@
 //! Which devices of a circuit the chosen instances of a round replace, and by what.
 ghost use Rattle.std.specs.Prelude.{◌≡◌, ◌<◌, ◌++◌, ◌∷◌, [], List, length, All, IfOk, OnOk};
-ghost use Rattle.std.specs.List.{enumerate_from, zip};
+ghost use Rattle.std.specs.List.{zip};
 ghost use Rattle.gl_history.specs.Plain.{RoundCell as Found};
 ghost use Rattle.gl_history.specs.Replacing.{Chosen, chosen_of_cell, chosen_of};
 ghost use Rattle.gl_history.specs.Marks.{Holds, AreBelow, made_slot, chosen_among};
 
 use crate::fate::{Fate, mark};
 use crate::slot::Slot;
-use crate::{Cell, Composite, Origin, RoundCell};
+use crate::{Cell, Origin, RoundCell};
 use gl_graph::{Device, NetId, TypeId};
 use gl_legal::{InstKey, Instance};
 use gl_match::{Memory, Pick};
@@ -20,8 +20,6 @@ pub struct Marks {
     pub fates: Vec<Fate>,
     /// The device that stands for each chosen instance, in their order.
     pub slots: Vec<Slot>,
-    /// Where each was found.
-    pub composites: Vec<Composite>,
 }
 
 /// The device that stands for a chosen instance of a number.
@@ -43,7 +41,6 @@ impl Marks {
         Ok(Marks {
             fates: vec![in alloc; Fate::Stays; devices as usize]?,
             slots: Vec::new(alloc),
-            composites: Vec::new(alloc),
         })
     }
 }
@@ -55,14 +52,12 @@ fn add_chosen(
     kind: TypeId,
     number: u32,
     key: &InstKey,
-    composite: Composite,
 ) -> Result<(), Memory>
     requires below { All (λ dev. dev < length marks.old.fates.items) key.now.set }
     ensures marked { OnOk result ((before : List Chosen) → Holds marks.old before
         → Holds marks.new (before ++ record {
           set = key.now.set;
           slot = made_slot kind number key.now.binding;
-          composite = composite;
         } ∷ [])) }
     ensures devices { length marks.new.fates.items ≡ length marks.old.fates.items }
 {
@@ -71,66 +66,44 @@ fn add_chosen(
     marks
         .slots
         .push(new_slot(alloc, kind, number, &key.binding)?)?;
-    marks.composites.push(composite)?;
     Ok(())
 }
 
-/// Where instances were found, and the type of the devices that stand for them.
-#[derive(Drop)]
-struct Site {
-    /// The round.
-    round: u32,
-    /// The number of the cell.
-    cell: u32,
-    /// The type.
-    kind: TypeId,
-}
-
-/// Marks the instance at a place of a cell's list, if it is chosen. No memory holds more instances than there are numbers.
+/// Marks an instance of a cell, if it is chosen.
 fn add_item(
     alloc: Global,
     marks: &mut Marks,
-    site: &Site,
-    place: usize,
+    kind: TypeId,
     instance: &Instance,
     pick: Pick,
 ) -> Result<(), Memory>
     requires below { All (λ dev. dev < length marks.old.fates.items) instance.now.key.set }
     ensures marked { OnOk result ((before : List Chosen) → Holds marks.old before
-        → Holds marks.new (before ++ chosen_among site.now ((place, (instance.now, pick)) ∷ []))) }
+        → Holds marks.new (before ++ chosen_among kind ((instance.now, pick) ∷ []))) }
     ensures devices { length marks.new.fates.items ≡ length marks.old.fates.items }
 {
     let Pick::Taken(number) = pick else {
         return Ok(());
     };
-    let Ok(item) = u32::try_from(place) else {
-        return Err(Memory);
-    };
-    let composite = Composite {
-        cell: site.cell,
-        round: site.round,
-        item,
-    };
-    add_chosen(alloc, marks, site.kind, number, &instance.key, composite)
+    add_chosen(alloc, marks, kind, number, &instance.key)
 }
 
 /// Marks the chosen ones of a cell's instances.
 fn add_items(
     alloc: Global,
     marks: &mut Marks,
-    site: &Site,
+    kind: TypeId,
     list: &[Instance],
     picks: &[Pick],
 ) -> Result<(), Memory>
     requires below { AreBelow (length marks.old.fates.items) list.now }
     requires picked { length picks.now ≡ length list.now }
     ensures marked { OnOk result ((before : List Chosen) → Holds marks.old before
-        → Holds marks.new (before
-        ++ chosen_among site.now (enumerate_from 0 (zip list.now picks.now)))) }
+        → Holds marks.new (before ++ chosen_among kind (zip list.now picks.now))) }
     ensures devices { length marks.new.fates.items ≡ length marks.old.fates.items }
 {
     for (i, instance) in list.iter().enumerate() {
-        add_item(alloc, marks, site, i, instance, picks[i])?;
+        add_item(alloc, marks, kind, instance, picks[i])?;
     }
     Ok(())
 }
@@ -139,7 +112,6 @@ fn add_items(
 fn add_cell(
     alloc: Global,
     marks: &mut Marks,
-    round: u32,
     cells: &[Cell],
     found: &RoundCell,
 ) -> Result<(), Memory>
@@ -147,23 +119,17 @@ fn add_cell(
     requires below { AreBelow (length marks.old.fates.items) found.now.list }
     requires picked { length found.now.picks ≡ length found.now.list }
     ensures marked { OnOk result ((before : List Chosen) → Holds marks.old before
-        → Holds marks.new (before ++ chosen_of_cell round cells.now found.now)) }
+        → Holds marks.new (before ++ chosen_of_cell cells.now found.now)) }
     ensures devices { length marks.new.fates.items ≡ length marks.old.fates.items }
 {
     let cell = &cells[found.cell as usize];
-    let site = Site {
-        round,
-        cell: found.cell,
-        kind: cell.kind,
-    };
-    add_items(alloc, marks, &site, &found.list.items, &found.picks)
+    add_items(alloc, marks, cell.kind, &found.list.items, &found.picks)
 }
 
 /// Marks the chosen instances of a round.
 pub fn add_round(
     alloc: Global,
     marks: &mut Marks,
-    round: u32,
     cells: &[Cell],
     found: &[RoundCell],
 ) -> Result<(), Memory>
@@ -171,11 +137,11 @@ pub fn add_round(
     requires below { All (λ (f : Found). AreBelow (length marks.old.fates.items) f.list) found.now }
     requires picked { All (λ (f : Found). length f.picks ≡ length f.list) found.now }
     ensures marked { OnOk result ((before : List Chosen) → Holds marks.old before
-        → Holds marks.new (before ++ chosen_of round cells.now found.now)) }
+        → Holds marks.new (before ++ chosen_of cells.now found.now)) }
     ensures devices { length marks.new.fates.items ≡ length marks.old.fates.items }
 {
     for f in found {
-        add_cell(alloc, marks, round, cells, f)?;
+        add_cell(alloc, marks, cells, f)?;
     }
     Ok(())
 }
