@@ -1,0 +1,4 @@
+mod KeyLaws
+mod LineLaws
+mod LoopLaws
+mod RoundLaws

@@ -1,0 +1,4 @@
+pub mod Keys
+pub mod Probes
+pub mod Shown
+pub mod Rows
