@@ -2,3 +2,4 @@ pub mod Firsts
 pub mod Walks
 pub mod Plans
 pub mod Kept
+pub mod Named
