@@ -1,12 +1,8 @@
--- The texts of refusals of restoring, and of limits that are passed: number, name, and each field with its value, with one blank between each two.
+-- The texts of refusals of restoring: number, name, and each field with its value, with one blank between each two.
 use Rattle.std.specs.Prelude.{ℕ, List, [], codes}
-use Rattle.gl_text.specs.LogicalLines.{FILE, NAME}
-use Rattle.gl_text.specs.Flattening.{CARDS}
-use Rattle.gl_lifting.specs.OutLimits.{OutLimit, of_name, of_cards, of_lifted_text, of_lifted_flat, of_map_text, of_report_text, of_restored_text}
 use Rattle.gl_lifting.specs.Renaming.{RestoreFault, missing, extra, net_merge, letter_changed, device_merge}
 use Rattle.gl_said.specs.Texts.{numbered, named}
-
--- ---- refusals
+pub use Rattle.gl_limit.specs.Texts.{limit_text}
 
 -- a refusal of restoring
 abbrev pub fault_text : RestoreFault → List ℕ
@@ -15,25 +11,3 @@ fault_text (extra line) = numbered (codes "45 Extra line=") line []
 fault_text (net_merge line) = numbered (codes "46 NetMerge line=") line []
 fault_text (letter_changed line) = numbered (codes "47 LetterChanged line=") line []
 fault_text (device_merge line) = numbered (codes "48 DeviceMerge line=") line []
-
--- ---- limits
-
--- the name of a limit of what is written
-abbrev pub limit_name : OutLimit → List ℕ
-limit_name of_name = codes "Name"
-limit_name of_cards = codes "Cards"
-limit_name of_lifted_text = codes "LiftedText"
-limit_name of_lifted_flat = codes "LiftedFlat"
-limit_name of_map_text = codes "MapText"
-limit_name of_report_text = codes "ReportText"
-limit_name of_restored_text = codes "RestoredText"
-
--- how much it allows
-abbrev pub limit_number : OutLimit → ℕ
-limit_number of_name = NAME
-limit_number of_cards = CARDS
-limit_number _ = FILE
-
--- that it is passed
-abbrev pub limit_text : OutLimit → List ℕ
-limit_text limit = named (codes "50 OutLimit which=") (limit_name limit) (numbered (codes " number=") (limit_number limit) [])

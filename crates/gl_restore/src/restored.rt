@@ -18,11 +18,9 @@ use crate::refused::{
 };
 use crate::{Flat, Memory, Name, NameMap, RestoreFault, TextFault};
 use gl_flat::{KeptDevice, Names};
+use gl_limit::FILE_LENGTH;
 use std::alloc::Global;
 use std::marker::Model;
-
-/// The most bytes of a restored deck's text.
-const TEXT: usize = 67_108_864;
 
 /// A flat deck under the old names of a map. Contracts see it as a flat deck.
 #[derive(Drop)]
@@ -101,7 +99,7 @@ fn is_too_long(alloc: Global, restored: &Restored<'_>) -> Result<bool, Memory>
 {
     let mut frame = Vec::new(alloc);
     put_deck(&mut frame, restored.flat, &restored.nets, &[])?;
-    Ok(add_devices(frame.as_slice().len(), &restored.nets, &restored.devices) > TEXT)
+    Ok(add_devices(frame.as_slice().len(), &restored.nets, &restored.devices) > FILE_LENGTH)
 }
 
 impl<'a> Restored<'a> {
