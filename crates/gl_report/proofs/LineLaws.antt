@@ -56,10 +56,3 @@ same_ports ports ports' nets nets' binding binding' a b c = ap (λ ps. parts ps 
 
 pub same_images : (devices : List (List ℕ)) (cards cards' : List Body) (least least' : List Spot) → cards ≡ cards' → least ≡ least' → images_by devices cards least ≡ images_by devices cards' least'
 same_images devices cards cards' least least' a b = ap (λ bs. images_by devices bs least) a ∙ ap (λ ss. images_by devices cards' ss) b
-
--- the text of a round, by its pieces
-pub round_printed : (out a b c text number lines : List ℕ) → a ≡ out ++ codes "round " → b ≡ a ++ number → c ≡ b ++ codes "\n" → text ≡ c ++ lines → text ≡ out ++ (line (codes "round" ∷ number ∷ []) ++ lines)
-round_printed out a b c text number lines f g h i =
-    let pieces : text ≡ (((out ++ codes "round ") ++ number) ++ codes "\n") ++ lines = i ∙ ap (λ t. t ++ lines) (h ∙ ap (λ t. t ++ codes "\n") (g ∙ ap (λ t. t ++ number) f)) in
-    let whole : text ≡ out ++ ((codes "round " ++ (number ++ codes "\n")) ++ lines) = pieces ∙ simp append_assoc in
-    whole

@@ -1,50 +1,47 @@
--- What a loop appends, turn by turn.
-use Rattle.std.proofs.Common.{◌≡◌, ℕ, ◌+◌, ◌<◌, ◌≤◌, List, [], ◌∷◌, ◌++◌, length, map, take, get_or, min, refl, sym, ap, ◌∙◌, arith}
-use Rattle.std.specs.Prelude.{flat_map, zip}
-use Rattle.std.specs.List.{enumerate_from}
-use Rattle.std.proofs.lemmas.List.{flat_map_more, take_more, take_all}
+-- What is told of cells and rounds, printed one after another.
+use Rattle.std.proofs.Common.{◌≡◌, ℕ, suc, ◌+◌, ◌<◌, List, ◌∷◌, ◌++◌, length, get_or, drop, drop-cons, add-one, append_assoc, sym, ap, ◌∙◌}
+use Rattle.std.specs.Prelude.{zip, flat_map, Result, Ok, Err, IfErr}
+use Rattle.std.specs.Result.{IsErrAnd}
+use Rattle.std.proofs.Math.Path.{subst}
 use Rattle.std.proofs.lemmas.List.Concat.{flat_map-append}
-use Rattle.std.proofs.lemmas.List.FromFn.{length-enumerate_from, get_or-enumerate_from}
-use Rattle.std.proofs.lemmas.Slice.Zip.{get_or-zip, length-zip}
+use Rattle.gl_text.specs.Decks.{Sub}
+use Rattle.gl_base.specs.Libraries.{Cell, Library}
+use Rattle.gl_base.specs.RoundReports.{CellPart, part_lines}
+use Rattle.gl_history.specs.Plain.{RoundCell, Round}
+use Rattle.gl_limit.specs.Bounds.{Tells}
+use Rattle.gl_limit.specs.declared.fault.WriteFault.{WriteFault}
+use Rattle.gl_report.specs.Naming.{RoundNames, names_by}
+use Rattle.gl_report.specs.Shown.{told_of}
+use Rattle.gl_report.specs.Pieces.{parts_text, round_text, rounds_from}
 
--- a turn appends the text of one more item
-pub turn_appends : {A : Type 0} (f : A → List ℕ) (xs : List A) (i n : ℕ) (x : A) (out before after : List ℕ) → i < length xs → n ≡ i + 1 → get_or xs i x ≡ x → before ≡ out ++ flat_map f (take i xs) → after ≡ before ++ f x → after ≡ out ++ flat_map f (take n xs)
-turn_appends {A} f xs i n x out before after lt next is was now =
-    let more : take n xs ≡ take i xs ++ x ∷ [] = ap (λ (m : ℕ). take m xs) next ∙ (take_more xs i x lt ∙ ap (λ (y : A). take i xs ++ y ∷ []) is) in
-    now ∙ (ap (λ (t : List ℕ). t ++ f x) was ∙ (flat_map_more f out (take i xs) x ∙ ap (λ (ys : List A). out ++ flat_map f ys) (sym more)))
+-- the text of a front, and of what is behind
+pub parts_append : (names : RoundNames) (front rest : List CellPart) → parts_text names (front ++ rest) ≡ parts_text names front ++ parts_text names rest
+parts_append names front rest = flat_map-append (part_lines names.run names.devices) front rest
 
--- the last turn has appended them all
-pub all_appended : {A : Type 0} (f : A → List ℕ) (xs : List A) (i : ℕ) (out text : List ℕ) → length xs ≤ i → text ≡ out ++ flat_map f (take i xs) → text ≡ out ++ flat_map f xs
-all_appended {A} f xs i out text all is = is ∙ ap (λ (ys : List A). out ++ flat_map f ys) (take_all i xs all)
+-- the text of a round, and of those behind
+pub rounds_next : (names : RoundNames) (library : Library) (rounds : List Round) (level : ℕ) (r : Round) → level < length rounds → r ≡ get_or rounds level r → rounds_from names library level (drop level rounds) ≡ round_text names library (level, r) ++ rounds_from names library (level + 1) (drop (level + 1) rounds)
+rounds_next names library rounds level r lt is =
+    let next : drop level rounds ≡ r ∷ drop (level + 1) rounds = drop-cons rounds level r lt ∙ (ap (λ (x : Round). x ∷ drop (suc level) rounds) (sym is) ∙ ap (λ (n : ℕ). r ∷ drop n rounds) (sym (add-one level))) in
+    ap (rounds_from names library level) next
 
--- a numbered item
-numbered_at : {A : Type 0} (a : ℕ) (xs : List A) (i number : ℕ) (x : A) → i < length xs → number ≡ a + i → get_or xs i x ≡ x → get_or (enumerate_from a xs) i (number, x) ≡ (number, x)
-numbered_at {A} a xs i number x lt e is = get_or-enumerate_from a xs i (number, x) lt ∙ (ap (λ (n : ℕ). (n, get_or xs i x)) (sym e) ∙ ap (λ (y : A). (number, y)) is)
+-- a turn of a loop over rounds
+pub rounds_turn : (names : RoundNames) (library : Library) (rounds : List Round) (level : ℕ) (r : Round) (before whole : List ℕ) → level < length rounds → r ≡ get_or rounds level r → before ++ rounds_from names library level (drop level rounds) ≡ whole → (before ++ round_text names library (level, r)) ++ rounds_from names library (level + 1) (drop (level + 1) rounds) ≡ whole
+rounds_turn names library rounds level r before whole lt is was =
+    append_assoc before (round_text names library (level, r)) (rounds_from names library (level + 1) (drop (level + 1) rounds))
+    ∙ (ap (λ (t : List ℕ). before ++ t) (sym (rounds_next names library rounds level r lt is)) ∙ was)
 
--- a turn appends the text of one more numbered item
-pub numbered_turn : {A : Type 0} (f : ℕ × A → List ℕ) (a : ℕ) (xs : List A) (i n number : ℕ) (x : A) (out before after : List ℕ) → i < length xs → n ≡ i + 1 → number ≡ a + i → x ≡ get_or xs i x → before ≡ out ++ flat_map f (take i (enumerate_from a xs)) → after ≡ before ++ f (number, x) → after ≡ out ++ flat_map f (take n (enumerate_from a xs))
-numbered_turn f a xs i n number x out before after lt next e is was now =
-    turn_appends f (enumerate_from a xs) i n (number, x) out before after (omega (arith, length-enumerate_from a xs, lt)) next (numbered_at a xs i number x lt e (sym is)) was now
+-- a round's cells by the names of its devices, printed, are those of what is shown of it
+pub cells_printed : (names here : RoundNames) (library : Library) (level : ℕ) (round : Round) (subs : List Sub) (cells : List Cell) (told : List RoundCell) → here.run ≡ names.run → here.devices ≡ names_by names round.origins → subs ≡ library.deck.subs → cells ≡ library.cells → told ≡ round.cells → parts_text here (told_of level (zip subs cells) told) ≡ flat_map (part_lines names.run (names_by names round.origins)) (told_of level (zip library.deck.subs library.cells) round.cells)
+cells_printed names here library level round subs cells told run devices subs_are cells_are told_are =
+    ap (λ ss. parts_text here (told_of level (zip ss cells) told)) subs_are
+    ∙ (ap (λ cs. parts_text here (told_of level (zip library.deck.subs cs) told)) cells_are
+    ∙ (ap (λ ts. parts_text here (told_of level (zip library.deck.subs library.cells) ts)) told_are
+    ∙ (ap (λ r. flat_map (part_lines r here.devices) (told_of level (zip library.deck.subs library.cells) round.cells)) run
+    ∙ ap (λ ds. flat_map (part_lines names.run ds) (told_of level (zip library.deck.subs library.cells) round.cells)) devices)))
 
-pub numbered_all : {A : Type 0} (f : ℕ × A → List ℕ) (a : ℕ) (xs : List A) (i : ℕ) (out text : List ℕ) → length xs ≤ i → text ≡ out ++ flat_map f (take i (enumerate_from a xs)) → text ≡ out ++ flat_map f (enumerate_from a xs)
-numbered_all f a xs i out text all is = all_appended f (enumerate_from a xs) i out text (omega (arith, length-enumerate_from a xs, all)) is
+-- ---- faults
 
--- the same of two lists, item beside item
-pub pair_turn : {A B : Type 0} (f : ℕ × (A × B) → List ℕ) (a : ℕ) (ks : List A) (vs : List B) (i n number : ℕ) (x : A) (y : B) (out before after : List ℕ) → i < length ks → i < length vs → n ≡ i + 1 → number ≡ a + i → x ≡ get_or ks i x → y ≡ get_or vs i y → before ≡ out ++ flat_map f (take i (enumerate_from a (zip ks vs))) → after ≡ before ++ f (number, (x, y)) → after ≡ out ++ flat_map f (take n (enumerate_from a (zip ks vs)))
-pair_turn {A} {B} f a ks vs i n number x y out before after lt lt' next e is_x is_y was now =
-    let pair : A × B = (x, y) in
-    let own : pair ≡ (get_or ks i x, get_or vs i y) = ap (λ (z : A). (z, y)) is_x ∙ ap (λ (z : B). (get_or ks i x, z)) is_y in
-    numbered_turn f a (zip ks vs) i n number pair out before after (omega (arith, length-zip ks vs, lt, lt')) next e (own ∙ sym (get_or-zip ks vs i pair lt lt')) was now
-
-pub pair_all : {A B : Type 0} (f : ℕ × (A × B) → List ℕ) (a : ℕ) (ks : List A) (vs : List B) (i : ℕ) (out text : List ℕ) → i ≡ min (length ks) (length vs) → text ≡ out ++ flat_map f (take i (enumerate_from a (zip ks vs))) → text ≡ out ++ flat_map f (enumerate_from a (zip ks vs))
-pair_all f a ks vs i out text all is = numbered_all f a (zip ks vs) i out text (omega (arith, length-zip ks vs, all)) is
-
--- texts of lists, one after another
-pub nested : {A B : Type 0} (g : B → List ℕ) (f : A → List B) (xs : List A) → flat_map g (flat_map f xs) ≡ flat_map (λ (x : A). flat_map g (f x)) xs
-nested g f [] = refl
-nested g f (x ∷ xs) = flat_map-append g (f x) (flat_map f xs) ∙ ap (λ (t : List ℕ). flat_map g (f x) ++ t) (nested g f xs)
-
--- what is numbered again has its number
-pub again : {A B : Type 0} (g : ℕ × B → List ℕ) (f : ℕ × A → B) (k : ℕ) (xs : List A) → flat_map g (enumerate_from k (map f (enumerate_from k xs))) ≡ flat_map (λ (n : ℕ × A). g (n.0, f n)) (enumerate_from k xs)
-again g f k [] = refl
-again g f k (x ∷ xs) = ap (λ (t : List ℕ). g (k, f (k, x)) ++ t) (again g f (k + 1) xs)
+-- a fault that is passed on tells what it told
+pub told_on : {V : Type 0} (r : Result V WriteFault) (f : WriteFault) (whole : List ℕ) → IsErrAnd r (λ e. e ≡ f) → Tells f whole → IfErr r (λ e. Tells e whole)
+told_on (Ok v) f whole e h = tt
+told_on (Err g) f whole e h = subst (λ (x : WriteFault). Tells x whole) (sym e) h

@@ -1,25 +1,32 @@
 -- What is told of rounds by numbers of cells is what is told of a history.
 use Rattle.std.proofs.Common.{◌≡◌, ◌+◌, ◌<◌, ℕ, zero, suc, List, [], ◌∷◌, ◌++◌, length, map, filter, cond, eqb, get_or, drop, Bool, true, false, Option, None, Some, refl, sym, ap, ◌∙◌, arith}
-use Rattle.std.specs.Prelude.{◌==◌, filter_map, flat_map, zip, option_map}
+use Rattle.std.specs.Prelude.{◌==◌, filter_map, flat_map, zip, option_map, Result, Ok, Err, IfErr}
+use Rattle.std.specs.Result.{IsErrAnd}
+use Rattle.std.proofs.Math.Path.{subst}
 use Rattle.std.specs.List.{AllZip, enumerate_from, range_with_len, cons_option}
 use Rattle.std.proofs.lemmas.Bool.{eq-eqb, ne_eqb}
 use Rattle.std.proofs.lemmas.List.Sums.{sum_by-cons}
 use Rattle.gl_text.specs.Decks.{Sub}
+use Rattle.gl_text.specs.Flattening.{Flat, device_name}
 use Rattle.gl_match.specs.declared.role.Pick.{Pick}
 use Rattle.gl_match.specs.Cells.{Cell}
 use Rattle.gl_match.specs.Graph.{Device}
 use Rattle.gl_match.specs.Listing.{Instance}
+use Rattle.gl_base.specs.BaseCircuit.{nets_of}
 use Rattle.gl_base.specs.Libraries as libraries
-use Rattle.gl_base.specs.Rounds.{cells_at}
+use Rattle.gl_base.specs.Rounds.{cells_at, cards_of}
 use Rattle.gl_base.specs.RoundReports.{CellPart, found, skipped, RoundPart, cell_parts, report_text}
-use Rattle.gl_lifting.specs.Runs.{Run}
+use Rattle.gl_lifting.specs.Runs.{Run, run_of}
 use Rattle.gl_lifting.specs.Replacement.{Origin, base, made, Slot}
 use Rattle.gl_lifting.specs.Histories as histories
-use Rattle.gl_lifting.specs.HistoryReports.{origin_name, slot_names, round_part, rounds_report, is_original, left_in}
+use Rattle.gl_lifting.specs.HistoryReports.{origin_name, slot_names, round_part, rounds_report, history_report, is_original, left_in}
 use Rattle.gl_lifting.specs.SearchedCells.{AreCells, cell_in, pattern_unless}
 use Rattle.gl_history.specs.Plain.{RoundCell, Round, Lifted}
 use Rattle.gl_history.specs.Searching.{number_at, numbers_at, rounds_of}
 use Rattle.gl_history.specs.Shown.{Shows, IsLifted}
+use Rattle.gl_found.specs.Founds.{IsRunOf}
+use Rattle.gl_limit.specs.Bounds.{Tells}
+use Rattle.gl_limit.specs.declared.fault.WriteFault.{WriteFault}
 use Rattle.gl_report.specs.Naming.{RoundNames, names_by}
 use Rattle.gl_report.specs.Shown.{found_of, told_by, told_at, told_of, shown_part, shown_report, is_base, left_of}
 
@@ -121,3 +128,21 @@ count_is (s ∷ slots) =
 -- as many devices are left as in the history
 pub left_is : (run : Run) (cells : List Cell) (lifted : Lifted) (is : IsLifted run cells lifted) → left_of lifted.last_origins ≡ left_in is.history.last.slots
 left_is run cells lifted is = ap left_of is.last_origins ∙ count_is is.history.last.slots
+
+-- ---- runs
+
+-- the names of the first circuit
+abbrev pub first_names : List ℕ → Flat → RoundNames
+first_names stem flat = record { run = record { stem = stem; nets = nets_of (cards_of flat) }; devices = map device_name flat.devices }
+
+-- the report of a run is that of its history
+pub history_is : (stem : List ℕ) (flat : Flat) (library : libraries.Library) (lifted : Lifted) (r : IsRunOf flat library lifted) → shown_report (first_names stem flat) library lifted.rounds (left_of lifted.last_origins) ≡ history_report stem flat library r.shown.history
+history_is stem flat library lifted r =
+    let run : Run = run_of flat library r.keep in
+    let names = first_names stem flat in
+    report_is run r.cells lifted names (left_of lifted.last_origins) r.are_cells r.shown ∙ ap (rounds_report names.run names.devices library r.shown.history.rounds) (left_is run r.cells lifted r.shown)
+
+-- a fault that is passed on tells of the report of the history
+pub history_told : {V : Type 0} (r : Result V WriteFault) (f : WriteFault) (stem : List ℕ) (flat : Flat) (library : libraries.Library) (lifted : Lifted) → IsErrAnd r (λ e. e ≡ f) → Tells f (shown_report (first_names stem flat) library lifted.rounds (left_of lifted.last_origins)) → IfErr r (λ e. (is : IsRunOf flat library lifted) → Tells e (history_report stem flat library is.shown.history))
+history_told (Ok v) f stem flat library lifted e h = tt
+history_told (Err g) f stem flat library lifted e h = λ is. subst (λ (x : WriteFault). Tells x (history_report stem flat library is.shown.history)) (sym e) (subst (Tells f) (history_is stem flat library lifted is) h)

@@ -1,5 +1,6 @@
 -- The pieces of a report, as they are printed one after another.
-use Rattle.std.specs.Prelude.{ℕ, List, ◌∷◌, map, flat_map}
+use Rattle.std.specs.Prelude.{ℕ, List, [], ◌∷◌, ◌++◌, codes, map, flat_map}
+use Rattle.std.specs.Fmt.{decimal}
 use Rattle.std.specs.List.{enumerate_from}
 use Rattle.gl_text.specs.Decks.{Sub}
 use Rattle.gl_match.specs.declared.role.Pick.{Pick}
@@ -27,6 +28,14 @@ parts_text names told = flat_map (part_lines names.run names.devices) told
 abbrev pub round_text : RoundNames → Library → ℕ × Round → List ℕ
 round_text names library r = round_lines names.run (r.0, shown_part names library r)
 
+-- rounds, numbered from a level on, printed
+abbrev pub rounds_from : RoundNames → Library → ℕ → List Round → List ℕ
+rounds_from names library level rounds = flat_map (round_lines names.run) (enumerate_from level (map (shown_part names library) (enumerate_from level rounds)))
+
 -- rounds, numbered from 0, printed
 abbrev pub rounds_text : RoundNames → Library → List Round → List ℕ
-rounds_text names library rounds = flat_map (round_lines names.run) (enumerate_from 0 (map (shown_part names library) (enumerate_from 0 rounds)))
+rounds_text names library rounds = rounds_from names library 0 rounds
+
+-- how many devices are left, and the last line
+abbrev pub left_lines : ℕ → List ℕ
+left_lines left = line (codes "left" ∷ decimal left ∷ []) ++ line (codes "end" ∷ [])

@@ -1,8 +1,7 @@
-//! The report of a run over all its rounds, printed: exactly its text, or nothing.
+//! The report of a run over all its rounds: exactly its text, or that it is too long.
 #![tactic(auto)]
 
 mod cells;
-mod laws;
 mod lines;
 mod names;
 mod originals;
@@ -12,9 +11,6 @@ mod words;
 
 pub use gl_cells::Library;
 pub use gl_flat::Flat;
-pub use gl_history::{Origin, Round, RoundCell};
-pub use gl_match::{Memory, Pick};
-pub use laws::lifted_rounds_are_reported;
-pub use names::Names;
-pub use originals::left;
-pub use report::print;
+pub use gl_history::Lifted;
+pub use gl_limit::WriteFault;
+pub use report::report_text;

@@ -1,4 +1,4 @@
-ghost use Rattle.std.specs.Prelude.{◌≡◌, ◌∷◌, ◌++◌, [], OnOk, take, length, codes};
+ghost use Rattle.std.specs.Prelude.{◌≡◌, ◌∷◌, ◌++◌, [], OnOk, codes};
 ghost use Rattle.std.specs.Fmt.{decimal};
 ghost use Rattle.std.specs.List.{join_with_byte};
 ghost use Rattle.gl_base.specs.Reports.{line, cell_words};
@@ -16,7 +16,6 @@ use gl_match::{Memory, Pick};
 /// Appends the name of a searched cell, how many ports it has, and how many instances.
 fn put_counts(out: &mut Vec<u8>, name: &[u8], ports: usize, instances: usize) -> Result<(), Memory>
     ensures ok { OnOk result (out.new.items ≡ out.old.items ++ join_with_byte 32 (cell_words name.now ports instances)) }
-    ensures front { take (length out.old.items) out.new.items ≡ out.old.items }
 {
     put(out, b"cell ")?;
     put(out, name)?;
@@ -36,7 +35,6 @@ pub fn put_cell(
 ) -> Result<(), Memory>
     ensures ok { OnOk result (out.new.items ≡ out.old.items
         ++ line (cell_words name.now ports instances ++ codes "chosen" ∷ decimal chosen ∷ [])) }
-    ensures front { take (length out.old.items) out.new.items ≡ out.old.items }
 {
     put_counts(out, name, ports, instances)?;
     put(out, b" chosen ")?;
@@ -48,7 +46,6 @@ pub fn put_cell(
 pub fn put_skipped(out: &mut Vec<u8>, name: &[u8], skip: &Skip) -> Result<(), Memory>
     ensures ok { OnOk result (out.new.items ≡ out.old.items
         ++ line (codes "cell" ∷ name.now ∷ codes "skipped" ∷ reason_words (skip_value skip.now))) }
-    ensures front { take (length out.old.items) out.new.items ≡ out.old.items }
 {
     put(out, b"cell ")?;
     put(out, name)?;
@@ -68,7 +65,6 @@ pub fn put_instance(
 ) -> Result<(), Memory>
     ensures ok { OnOk result (out.new.items ≡ out.old.items
         ++ line (found_words names.now.run names.now.devices cell.now (number, (item.now, pick)))) }
-    ensures front { take (length out.old.items) out.new.items ≡ out.old.items }
 {
     let key = &item.key;
     put_number(out, number)?;

@@ -1,4 +1,4 @@
-ghost use Rattle.std.specs.Prelude.{◌≡◌, ◌∷◌, ◌++◌, OnOk, take, length, map};
+ghost use Rattle.std.specs.Prelude.{◌≡◌, ◌∷◌, ◌++◌, OnOk, map};
 ghost use Rattle.gl_match.specs.declared.spot.Spot.{Spot as SpotValue};
 ghost use Rattle.gl_text.specs.Flattening.{device_name};
 ghost use Rattle.gl_base.specs.Reports.{name_at, part, parts};
@@ -36,7 +36,6 @@ pub fn put_ports(
 ) -> Result<(), Memory>
     ensures ok { OnOk result (out.new.items
         ≡ out.old.items ++ behind_blanks (parts ports.now (map (name_at nets.now) binding.now))) }
-    ensures front { take (length out.old.items) out.new.items ≡ out.old.items }
 {
     for (port, net) in ports.iter().zip(binding) {
         put_part(out, port.as_bytes(), net_name(nets, *net))?;
@@ -58,7 +57,6 @@ fn name_of(card: &Body) -> &Name
 fn put_original(out: &mut Vec<u8>, devices: &[KeptDevice], dev: DevId) -> Result<(), Memory>
     ensures ok { OnOk result (out.new.items
         ≡ out.old.items ++ name_at (map (λ (d : Kept). d.name) devices.now) dev) }
-    ensures front { take (length out.old.items) out.new.items ≡ out.old.items }
 {
     match devices.get(dev.0 as usize) {
         Some(device) => put(out, device.name().as_bytes()),
@@ -70,7 +68,6 @@ fn put_original(out: &mut Vec<u8>, devices: &[KeptDevice], dev: DevId) -> Result
 fn put_origin(out: &mut Vec<u8>, stem: &[u8], flat: &Flat, origin: &Origin) -> Result<(), Memory>
     ensures ok { OnOk result (out.new.items ≡ out.old.items
         ++ origin_name stem.now (map device_name flat.now.devices) (origin_value origin.now)) }
-    ensures front { take (length out.old.items) out.new.items ≡ out.old.items }
 {
     match origin {
         Origin::Base(dev) => put_original(out, flat.devices(), *dev),
@@ -81,7 +78,6 @@ fn put_origin(out: &mut Vec<u8>, stem: &[u8], flat: &Flat, origin: &Origin) -> R
 /// Appends the name of a device of a round's circuit; nothing past the last.
 fn put_device(out: &mut Vec<u8>, names: &RoundNames<'_>, dev: DevId) -> Result<(), Memory>
     ensures ok { OnOk result (out.new.items ≡ out.old.items ++ name_at names.now.devices dev) }
-    ensures front { take (length out.old.items) out.new.items ≡ out.old.items }
 {
     match names.origins.get(dev.0 as usize) {
         Some(origin) => put_origin(out, names.stem, names.flat, origin),
@@ -98,7 +94,6 @@ fn put_image(
 ) -> Result<(), Memory>
     ensures ok { OnOk result (out.new.items ≡ out.old.items
         ++ 32 ∷ part (card_name (body_value card.now), name_at names.now.devices spot.now.dev)) }
-    ensures front { take (length out.old.items) out.new.items ≡ out.old.items }
 {
     put_front(out, name_of(card).as_bytes())?;
     put_device(out, names, spot.dev)
@@ -114,7 +109,6 @@ pub fn put_images(
     ensures ok { OnOk result (out.new.items ≡ out.old.items
         ++ behind_blanks (parts (map card_name (bodies_value cards.now))
         (map (λ (s : SpotValue). name_at names.now.devices s.dev) least.now))) }
-    ensures front { take (length out.old.items) out.new.items ≡ out.old.items }
 {
     for (card, spot) in cards.iter().zip(least) {
         put_image(out, names, card, spot)?;

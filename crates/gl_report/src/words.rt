@@ -1,4 +1,4 @@
-ghost use Rattle.std.specs.Prelude.{◌≡◌, ◌∷◌, ◌++◌, [], OnOk, take, length, codes};
+ghost use Rattle.std.specs.Prelude.{◌≡◌, ◌∷◌, ◌++◌, [], OnOk, codes};
 ghost use Rattle.std.specs.Fmt.{decimal};
 ghost use Rattle.gl_base.specs.Reports.{part};
 ghost use Rattle.gl_base.specs.RoundReports.{instance_name, fate_words, reason_words};
@@ -12,7 +12,6 @@ use itoa::Buffer;
 /// Appends bytes. What stood before stays, also where no memory is found.
 pub fn put(out: &mut Vec<u8>, bytes: &[u8]) -> Result<(), Memory>
     ensures ok { OnOk result (out.new.items ≡ out.old.items ++ bytes.now) }
-    ensures front { take (length out.old.items) out.new.items ≡ out.old.items }
 {
     out.extend_from_slice(bytes)?;
     Ok(())
@@ -21,7 +20,6 @@ pub fn put(out: &mut Vec<u8>, bytes: &[u8]) -> Result<(), Memory>
 /// Appends a number in decimal.
 pub fn put_number(out: &mut Vec<u8>, number: usize) -> Result<(), Memory>
     ensures ok { OnOk result (out.new.items ≡ out.old.items ++ decimal number) }
-    ensures front { take (length out.old.items) out.new.items ≡ out.old.items }
 {
     put(out, Buffer::new().format(number).as_bytes())
 }
@@ -29,7 +27,6 @@ pub fn put_number(out: &mut Vec<u8>, number: usize) -> Result<(), Memory>
 /// Appends a blank and `NAME=`, the front of a part.
 pub fn put_front(out: &mut Vec<u8>, name: &[u8]) -> Result<(), Memory>
     ensures ok { OnOk result (out.new.items ≡ out.old.items ++ 32 ∷ (name.now ++ codes "=")) }
-    ensures front { take (length out.old.items) out.new.items ≡ out.old.items }
 {
     put(out, b" ")?;
     put(out, name)?;
@@ -39,7 +36,6 @@ pub fn put_front(out: &mut Vec<u8>, name: &[u8]) -> Result<(), Memory>
 /// Appends a blank and `NAME=IMAGE`.
 pub fn put_part(out: &mut Vec<u8>, name: &[u8], image: &[u8]) -> Result<(), Memory>
     ensures ok { OnOk result (out.new.items ≡ out.old.items ++ 32 ∷ part (name.now, image.now)) }
-    ensures front { take (length out.old.items) out.new.items ≡ out.old.items }
 {
     put_front(out, name)?;
     put(out, image)
@@ -48,7 +44,6 @@ pub fn put_part(out: &mut Vec<u8>, name: &[u8], image: &[u8]) -> Result<(), Memo
 /// Appends the name of a chosen instance.
 pub fn put_chosen(out: &mut Vec<u8>, stem: &[u8], number: u32) -> Result<(), Memory>
     ensures ok { OnOk result (out.new.items ≡ out.old.items ++ instance_name stem.now number) }
-    ensures front { take (length out.old.items) out.new.items ≡ out.old.items }
 {
     put(out, stem)?;
     put_number(out, number as usize)
@@ -57,7 +52,6 @@ pub fn put_chosen(out: &mut Vec<u8>, stem: &[u8], number: u32) -> Result<(), Mem
 /// Appends what became of an instance: a blank, `over` and a blank if it is not chosen, and the name of the chosen one.
 pub fn put_fate(out: &mut Vec<u8>, stem: &[u8], pick: Pick) -> Result<(), Memory>
     ensures ok { OnOk result (out.new.items ≡ out.old.items ++ behind_blanks (fate_words stem.now pick)) }
-    ensures front { take (length out.old.items) out.new.items ≡ out.old.items }
 {
     match pick {
         Pick::Taken(number) => {
@@ -74,7 +68,6 @@ pub fn put_fate(out: &mut Vec<u8>, stem: &[u8], pick: Pick) -> Result<(), Memory
 /// Appends why a cell was skipped, each word behind a blank.
 pub fn put_reason(out: &mut Vec<u8>, skip: &Skip) -> Result<(), Memory>
     ensures ok { OnOk result (out.new.items ≡ out.old.items ++ behind_blanks (reason_words (skip_value skip.now))) }
-    ensures front { take (length out.old.items) out.new.items ≡ out.old.items }
 {
     match skip {
         Skip::Empty => put(out, b" empty"),

@@ -13,8 +13,8 @@ use Rattle.gl_report.specs.Pieces.{behind_blanks}
 use Rattle.gl_report.proofs.LineLaws.{instance_printed, same_ports, same_images}
 use Rattle.gl_report.proofs.lines.put_instance.Goals as goal
 
-pub returns-clause-ok : goal.returns-clause-ok
-returns-clause-ok c =
+pub returns : goal.returns
+returns c =
     let out = c.args.out.now.items in
     let names = c.args.names.now in
     let cell = c.args.cell.now in
@@ -29,5 +29,7 @@ returns-clause-ok c =
     let images : c.put_images.new.out.items ≡ c.put.new.out.items ++ behind_blanks (image_words names.devices cell item) =
     c.in_ok-put_images.ensures.ok ∙ ap (λ ws. c.put.new.out.items ++ behind_blanks ws)
     (same_images names.devices (bodies_value c.cards.result.now) cell.cards c.deref-2.result.now item.least c.cards.ensures.cards (c.deref-2.ensures.value ∙ ap (λ (i : Item). i.least) c.item.view_is)) in
-    IfOk-equal c.put-2.result c.put-2.new.out.items (c.put_images.new.out.items ++ codes "\n") (out ++ line (found_words names.run names.devices cell (c.args.number, (item, c.args.pick)))) c.put-2.ensures.ok
-    (instance_printed out c.put_number.new.out.items c.put_fate.new.out.items c.put_ports.new.out.items c.put.new.out.items c.put_images.new.out.items (decimal c.args.number) (fate_words names.run.stem c.args.pick) (port_words names.run.nets cell item) (image_words names.devices cell item) c.in_ok-put_number.ensures.ok fate ports c.in_ok-put.ensures.ok images)
+    record {
+      ok = IfOk-equal c.put-2.result c.put-2.new.out.items (c.put_images.new.out.items ++ codes "\n") (out ++ line (found_words names.run names.devices cell (c.args.number, (item, c.args.pick)))) c.put-2.ensures.ok
+          (instance_printed out c.put_number.new.out.items c.put_fate.new.out.items c.put_ports.new.out.items c.put.new.out.items c.put_images.new.out.items (decimal c.args.number) (fate_words names.run.stem c.args.pick) (port_words names.run.nets cell item) (image_words names.devices cell item) c.in_ok-put_number.ensures.ok fate ports c.in_ok-put.ensures.ok images);
+    }

@@ -9,8 +9,8 @@ use Rattle.gl_report.specs.Naming.{RoundNames}
 use Rattle.gl_report.proofs.PartLaws.{origin_named}
 use Rattle.gl_report.proofs.parts.put_device.Goals as goal
 
-pub returns-in-Some-clause-ok : goal.returns-in-Some-clause-ok
-returns-in-Some-clause-ok c =
+pub returns-in-Some : goal.returns-in-Some
+returns-in-Some c =
     let out = c.args.out.now.items in
     let inside = c.names.inside in
     let found = c.in-Some.ensures.lookup in
@@ -19,4 +19,4 @@ returns-in-Some-clause-ok c =
     let name : named (origin_value c.in-Some.origin.now) ≡ name_at c.args.names.now.devices c.args.dev =
     origin_named named inside.origins.now c.dev.inside.0 c.in-Some.origin.now within found.1
     ∙ (ap (λ (n : RoundNames). name_at n.devices c.dev.inside.0) c.names.view_is ∙ ap (name_at c.args.names.now.devices) c.dev.view_is) in
-    IfOk-equal c.put_origin.result c.put_origin.new.out.items (out ++ named (origin_value c.in-Some.origin.now)) (out ++ name_at c.args.names.now.devices c.args.dev) c.put_origin.ensures.ok (ap (λ (t : List ℕ). out ++ t) name)
+    record { ok = IfOk-equal c.put_origin.result c.put_origin.new.out.items (out ++ named (origin_value c.in-Some.origin.now)) (out ++ name_at c.args.names.now.devices c.args.dev) c.put_origin.ensures.ok (ap (λ (t : List ℕ). out ++ t) name) }

@@ -1,24 +1,31 @@
-use Rattle.std.proofs.Common.{◌∙◌, ◌+◌, ◌++◌, List, ℕ, sym, ap, arith}
-use Rattle.gl_base.specs.RoundReports.{round_lines}
-use Rattle.gl_report.specs.Shown.{shown_part}
-use Rattle.gl_report.specs.Pieces.{round_text}
-use Rattle.gl_card.proofs.PrintLaws.{front_stays}
-use Rattle.gl_report.proofs.ListLaws.{numbered_turn, numbered_all, again}
+use Rattle.std.proofs.Common.{◌∙◌, ◌+◌, ◌++◌, List, ℕ, drop, ap}
+use Rattle.std.proofs.Math.Path.{subst}
+use Rattle.gl_limit.specs.Bounds.{Tells}
+use Rattle.gl_report.specs.Pieces.{round_text, rounds_from, rounds_text}
+use Rattle.gl_report.proofs.ListLaws.{rounds_turn, told_on}
 use Rattle.gl_report.proofs.report.put_rounds.Goals as goal
 
 pub loop-level-preserved : goal.loop-level-preserved
 loop-level-preserved c =
-    let rounds = c.args.rounds.now in
-    let i = c.loop-level.level in
-    numbered_turn (round_text c.args.names.now c.args.library.now) 0 rounds i (i + 1) i c.index-rounds-level.result c.args.out.now.items c.loop-level.out.items c.put_round.new.out.items c.loop-level-test.true (omega arith) (omega arith) c.index-rounds-level.is c.loop-level.invariant c.in_ok-put_round.ensures.ok
-
-pub returns-in_err-put_round-clause-front : goal.returns-in_err-put_round-clause-front
-returns-in_err-put_round-clause-front c = front_stays c.args.out.now.items _ _ _ c.loop-level.invariant c.in_err-put_round.ensures.front
-
-pub returns-clause-ok : goal.returns-clause-ok
-returns-clause-ok c =
     let names = c.args.names.now in
     let library = c.args.library.now in
     let rounds = c.args.rounds.now in
-    numbered_all (round_text names library) 0 rounds c.loop-level.level c.args.out.now.items c.loop-level.out.items (omega arith) c.loop-level.invariant
-    ∙ ap (λ (t : List ℕ). c.args.out.now.items ++ t) (sym (again (round_lines names.run) (shown_part names library) 0 rounds))
+    let level = c.loop-level.level in
+    let behind = rounds_from names library (level + 1) (drop (level + 1) rounds) in
+    ap (λ (t : List ℕ). t ++ behind) c.in_ok-put_round.ensures.ok
+    ∙ rounds_turn names library rounds level c.index-rounds-level.result c.loop-level.out.items (c.args.out.now.items ++ rounds_text names library rounds) c.loop-level-test.true c.index-rounds-level.is c.loop-level.invariant
+
+pub returns-in_err-put_round-clause-fault : goal.returns-in_err-put_round-clause-fault
+returns-in_err-put_round-clause-fault c =
+    let names = c.args.names.now in
+    let library = c.args.library.now in
+    let rounds = c.args.rounds.now in
+    let level = c.loop-level.level in
+    let before = c.loop-level.out.items in
+    let round = c.index-rounds-level.result in
+    let fault = c.in_err-put_round.field-0.0 in
+    let behind = rounds_from names library (level + 1) (drop (level + 1) rounds) in
+    let whole = c.args.out.now.items ++ rounds_text names library rounds in
+    let turn = rounds_turn names library rounds level round before whole c.loop-level-test.true c.index-rounds-level.is c.loop-level.invariant in
+    told_on c.from_residual.result fault whole c.from_residual.ensures.1
+    (subst (Tells fault) turn (c.fronts_are_shorter.ensures.longer fault (before ++ round_text names library (level, round)) behind c.in_err-put_round.ensures.fault))
