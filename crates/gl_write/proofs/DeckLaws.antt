@@ -39,7 +39,7 @@ around_is x (Some head) subs cards =
     ∙ sym (append_assoc x (flat_map sub_text subs) (sub_text s))
 
 -- a lifted deck, by its variants and the devices of the last circuit
-abbrev lifted_by : List ℕ → Flat → Source → Variants → List Slot → Deck
+abbrev pub lifted_by : List ℕ → Flat → Source → Variants → List Slot → Deck
 lifted_by stem flat s vs slots =
     let names = variant_names (top_name flat) vs.different in
     let cards = map (slot_card stem (cards_of flat) names vs.numbers) slots in record {
@@ -59,11 +59,11 @@ text_is stem flat s vs slots =
     let front = flat.title ++ 10 ∷ flat_map global_line flat.rails ++ flat_map model_line flat.models in
     ap (λ t. t ++ flat_map passed_line flat.passed ++ line_of ended) (around_is front flat.top (map (variant_sub s names) (zip names vs.different)) cards)
 
--- the text of the lifted deck of a history, by what its rounds show
-pub deck_is : (stem : List ℕ) (flat : Flat) (library : Library) (lifted : Lifted) (r : IsRunOf flat library lifted) (vs : Variants) → vs ≡ variants_in (cards_of flat) library.deck.subs (all_found lifted.rounds)
-    → deck_by (run_of flat library r.keep).source stem flat (variant_names (top_name flat) vs.different) vs.different vs.numbers (slots_of lifted.last.devices lifted.last_origins)
-    ≡ deck_text (lifted_deck stem flat (run_of flat library r.keep).source r.shown.history)
-deck_is stem flat library lifted r vs e =
+-- the lifted deck of a history, by what its rounds show
+pub deck_same : (stem : List ℕ) (flat : Flat) (library : Library) (lifted : Lifted) (r : IsRunOf flat library lifted) (vs : Variants) → vs ≡ variants_in (cards_of flat) library.deck.subs (all_found lifted.rounds)
+    → lifted_by stem flat (run_of flat library r.keep).source vs (slots_of lifted.last.devices lifted.last_origins)
+    ≡ lifted_deck stem flat (run_of flat library r.keep).source r.shown.history
+deck_same stem flat library lifted r vs e =
     let run = run_of flat library r.keep in
     let h = r.shown.history in
     let told : vs ≡ variants_of (cards_of flat) h.last.composites =
@@ -73,6 +73,13 @@ deck_is stem flat library lifted r vs e =
     ap (λ (c : Circuit). slots_of c.devices lifted.last_origins) r.shown.last
     ∙ ap (λ (os : List Origin). slots_of (map (λ (t : Slot). t.device) h.last.slots) os) r.shown.last_origins
     ∙ together h.last.slots in
-    sym (text_is stem flat run.source vs (slots_of lifted.last.devices lifted.last_origins))
-    ∙ ap (λ (ws : Variants). deck_text (lifted_by stem flat run.source ws (slots_of lifted.last.devices lifted.last_origins))) told
-    ∙ ap (λ (ss : List Slot). deck_text (lifted_by stem flat run.source (variants_of (cards_of flat) h.last.composites) ss)) slots
+    ap (λ (ws : Variants). lifted_by stem flat run.source ws (slots_of lifted.last.devices lifted.last_origins)) told
+    ∙ ap (λ (ss : List Slot). lifted_by stem flat run.source (variants_of (cards_of flat) h.last.composites) ss) slots
+
+-- the text of the lifted deck of a history, by what its rounds show
+pub deck_is : (stem : List ℕ) (flat : Flat) (library : Library) (lifted : Lifted) (r : IsRunOf flat library lifted) (vs : Variants) → vs ≡ variants_in (cards_of flat) library.deck.subs (all_found lifted.rounds)
+    → deck_by (run_of flat library r.keep).source stem flat (variant_names (top_name flat) vs.different) vs.different vs.numbers (slots_of lifted.last.devices lifted.last_origins)
+    ≡ deck_text (lifted_deck stem flat (run_of flat library r.keep).source r.shown.history)
+deck_is stem flat library lifted r vs e =
+    sym (text_is stem flat (run_of flat library r.keep).source vs (slots_of lifted.last.devices lifted.last_origins))
+    ∙ ap deck_text (deck_same stem flat library lifted r vs e)

@@ -5,3 +5,4 @@ pub mod PlaceLaws
 pub mod LineLaws
 pub mod EndLaws
 pub mod NamingLaws
+pub mod LongLaws

@@ -1,5 +1,5 @@
 //! The cards of the last circuit's devices.
-ghost use Rattle.std.specs.Prelude.{◌≡◌, ◌++◌, map, OnOk};
+ghost use Rattle.std.specs.Prelude.{◌≡◌, ◌++◌, map, OnOk, IfErr};
 ghost use Rattle.gl_text.specs.Cards as cards;
 ghost use Rattle.gl_text.specs.Decks.{body_line, line_of};
 ghost use Rattle.gl_base.specs.BaseCircuit.{nets_of};
@@ -10,6 +10,7 @@ ghost use Rattle.gl_flat.specs.Kept.{device_line};
 ghost use Rattle.gl_history.specs.Plain.{origin_value};
 ghost use Rattle.gl_history.specs.Replacing.{slots_of};
 ghost use Rattle.gl_lifting.specs.LiftedDecks.{slot_card};
+ghost use Rattle.gl_limit.specs.Bounds.{Tells};
 ghost use Rattle.gl_lifting.specs.Variants.{card_at, variant_of};
 ghost use Rattle.gl_write.specs.Texts.{slots_text};
 
@@ -18,6 +19,7 @@ use crate::words::{name_or_empty, put, put_model, put_nets, put_numbers, put_tai
 use gl_flat::{Flat, KeptDevice};
 use gl_graph::{DevId, Device, NetId};
 use gl_history::Origin;
+use gl_limit::{WriteFault, check_length, fronts_are_shorter};
 use gl_line::Name;
 use gl_map::put_instance_name;
 use gl_match::Memory;
@@ -92,19 +94,41 @@ fn put_slot(
     }
 }
 
-/// Appends the cards of devices, each with where it comes from.
+/// Appends the card of a device of the last circuit; the text is then no longer than a file may be.
+fn put_short_slot(
+    out: &mut Vec<u8>,
+    scene: &Scene<'_>,
+    device: &Device,
+    origin: Origin,
+) -> Result<(), WriteFault>
+    ensures ok { OnOk result (out.new.items ≡ out.old.items ++ body_line (slot_card
+        scene.now.stem.now (cards_of scene.now.flat.now) scene.now.names.now scene.now.numbers.now
+        (record { device = device.now; origin = origin_value origin }))) }
+    ensures fault { IfErr result (λ fault. Tells fault (out.old.items ++ body_line (slot_card
+        scene.now.stem.now (cards_of scene.now.flat.now) scene.now.names.now scene.now.numbers.now
+        (record { device = device.now; origin = origin_value origin })))) }
+{
+    put_slot(out, scene, device, origin)?;
+    check_length(out)
+}
+
+/// Appends the cards of devices, each with where it comes from, until the text is longer than a file may be.
 pub fn put_slots(
     out: &mut Vec<u8>,
     scene: &Scene<'_>,
     devices: &[Device],
     origins: &[Origin],
-) -> Result<(), Memory>
+) -> Result<(), WriteFault>
     ensures ok { OnOk result (out.new.items ≡ out.old.items ++ slots_text scene.now.stem.now
         scene.now.flat.now scene.now.names.now scene.now.numbers.now
         (slots_of devices.now (map origin_value origins.now))) }
+    ensures fault { IfErr result (λ fault. Tells fault (out.old.items ++ slots_text
+        scene.now.stem.now scene.now.flat.now scene.now.names.now scene.now.numbers.now
+        (slots_of devices.now (map origin_value origins.now)))) }
 {
+    fronts_are_shorter();
     for (device, origin) in devices.iter().zip(origins) {
-        put_slot(out, scene, device, *origin)?;
+        put_short_slot(out, scene, device, *origin)?;
     }
     Ok(())
 }

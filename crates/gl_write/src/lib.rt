@@ -4,12 +4,14 @@
 mod carried;
 mod deck;
 mod device;
+mod long_names;
 mod naming;
 mod turned;
 mod variant;
 mod variant_card;
 mod variants;
 mod words;
+mod written;
 
-pub use deck::lifted_text;
 pub use gl_match::Memory;
+pub use written::{Written, lifted_text};

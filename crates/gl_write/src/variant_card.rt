@@ -1,16 +1,19 @@
 //! The text of variants.
-ghost use Rattle.std.specs.Prelude.{◌≡◌, ◌++◌, map, flat_map, zip, OnOk};
+ghost use Rattle.std.specs.Prelude.{◌≡◌, ◌++◌, map, flat_map, zip, OnOk, IfErr};
 ghost use Rattle.gl_text.specs.Decks.{body_line, body_name, head_line, sub_text};
 ghost use Rattle.gl_base.specs.BaseCircuit.{Source};
 ghost use Rattle.gl_deck.specs.Bodies.{body_value, bodies_value};
 ghost use Rattle.gl_lifting.specs.LiftedDecks.{variant_card, variant_sub};
+ghost use Rattle.gl_limit.specs.Bounds.{Tells};
 ghost use Rattle.gl_write.specs.Lines.{matched_text};
+ghost use Rattle.gl_write.specs.Texts.{variants_text};
 
 use crate::carried::{Carried, Matched};
 use crate::turned::put_nodes_back;
 use crate::variant::Variant;
 use crate::words::{name_or_empty, put, put_model, put_tail, put_word, put_words};
 use gl_deck::{Body, Name, put_ends};
+use gl_limit::{WriteFault, check_length, fronts_are_shorter};
 use gl_match::Memory;
 
 /// The name of a card.
@@ -98,17 +101,36 @@ fn put_variant(
     Ok(())
 }
 
-/// Appends variants under their names.
+/// Appends a variant under its name; the text is then no longer than a file may be.
+fn put_short_variant(
+    out: &mut Vec<u8>,
+    names: &[Name],
+    name: &Name,
+    variant: &Variant<'_>,
+) -> Result<(), WriteFault>
+    ensures ok { (s : Source) → OnOk result (out.new.items
+        ≡ out.old.items ++ sub_text (variant_sub s names.now (name.now, variant.now))) }
+    ensures fault { (s : Source) → IfErr result (λ fault. Tells fault
+        (out.old.items ++ sub_text (variant_sub s names.now (name.now, variant.now)))) }
+{
+    put_variant(out, names, name, variant)?;
+    check_length(out)
+}
+
+/// Appends variants under their names, until the text is longer than a file may be.
 pub fn put_variants(
     out: &mut Vec<u8>,
     names: &[Name],
     variants: &[Variant<'_>],
-) -> Result<(), Memory>
-    ensures ok { (s : Source) → OnOk result (out.new.items ≡ out.old.items
-        ++ flat_map sub_text (map (variant_sub s names.now) (zip names.now variants.now))) }
+) -> Result<(), WriteFault>
+    ensures ok { (s : Source) → OnOk result (out.new.items
+        ≡ out.old.items ++ variants_text s names.now variants.now) }
+    ensures fault { (s : Source) → IfErr result (λ fault. Tells fault
+        (out.old.items ++ variants_text s names.now variants.now)) }
 {
+    fronts_are_shorter();
     for (name, variant) in names.iter().zip(variants) {
-        put_variant(out, names, name, variant)?;
+        put_short_variant(out, names, name, variant)?;
     }
     Ok(())
 }
