@@ -4,5 +4,9 @@ pub mod CellsWhole
 pub mod ReadFiles
 pub mod Plain
 pub mod Headline
+pub mod Judged
+pub mod Tests
+pub mod Counted
 pub mod Kept
 pub mod WrittenLaws
+pub mod Lifts

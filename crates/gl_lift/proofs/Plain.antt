@@ -1,8 +1,8 @@
 -- A flat deck with its devices at the top has the same source, names and texts.
-use Rattle.std.proofs.Common.{◌≡◌, ◌++◌, ◌∷◌, [], ℕ, List, map, refl, ap, ◌∙◌, subst}
+use Rattle.std.proofs.Common.{◌≡◌, ◌+◌, ◌++◌, ◌∷◌, [], ℕ, List, length, map, Option, nat_lt, refl, ap, sym, ◌∙◌, subst}
 use Rattle.std.specs.Prelude.{zip, flat_map}
-use Rattle.gl_text.specs.Cards.{Device}
-use Rattle.gl_text.specs.Flattening.{Flat, FlatDevice, flat_card, device_name, top_ports}
+use Rattle.gl_text.specs.Cards.{Device, dev}
+use Rattle.gl_text.specs.Flattening.{Flat, FlatDevice, flat_card, flat_text, device_name, top_ports}
 use Rattle.gl_base.specs.Rails.{all_rails}
 use Rattle.gl_base.specs.BaseCircuit.{Source, nets_of}
 use Rattle.gl_base.specs.Libraries.{Library}
@@ -14,11 +14,15 @@ use Rattle.gl_lifting.specs.Histories.{History, IsHistory, AreRounds}
 use Rattle.gl_lifting.specs.HistoryReports.{rounds_report, left_in}
 use Rattle.gl_lifting.specs.Variants.{variants_of, variant_names}
 use Rattle.gl_lifting.specs.LiftedDecks.{variant_sub, slot_card, top_name}
-use Rattle.gl_lifting.specs.NameMaps.{all_located, devices_renamed, nets_renamed, renamed_by, map_text}
+use Rattle.gl_lifting.specs.NameMaps.{NameMap, all_located, devices_renamed, nets_renamed, renamed_by, map_text}
 use Rattle.gl_lifting.specs.LiftJobs.{Texts}
+use Rattle.gl_lifting.specs.OutLimits.{OutLimit, of_name, of_cards, of_lifted_text, of_lifted_flat, of_map_text, of_report_text, limits, passed_if, first_passed}
+use Rattle.gl_lifting.specs.Counting.{has_long_name, new_card}
+use Rattle.gl_lifting.specs.Renaming.{new_names}
 use Rattle.gl_printed.specs.FlatDecks.{subs_around, top_without}
-use Rattle.gl_text.specs.Decks.{deck_text}
-use Rattle.gl_lift.specs.Lifting.{AreComplete, AreChoice, AreApart, AreLiftTexts}
+use Rattle.gl_text.specs.Decks.{Deck, deck_text, line_of}
+use Rattle.gl_lift.specs.Counted.{HaveCounted}
+use Rattle.gl_lift.specs.Lifting.{AreComplete, AreChoice, AreApart, AreTextsOf}
 use Rattle.gl_flat.specs.PlainFlats.{plain_device, plain}
 use Rattle.gl_flat.proofs.PlainLaws.{plain_cards}
 use Rattle.gl_lib.specs.Sources.{cells_in}
@@ -74,7 +78,7 @@ map_with stem cards s h = let all = all_located stem h in map_text (record {
   nets = renamed_by (flat_map (nets_renamed s) all) (nets_of cards);
 })
 
-pub plain_texts : (keep : List (List ℕ)) (f : Flat) (library : Library) (texts : Texts) → AreLiftTexts keep library (plain f) texts → AreLiftTexts keep library f texts
+plain_texts : (keep : List (List ℕ)) (f : Flat) (library : Library) (texts : Texts) → AreTextsOf (run_of (plain f) library keep) (plain f) texts → AreTextsOf (run_of f library keep) f texts
 unfolding names_with text_with deck_with map_with
 plain_texts keep f library texts h =
     let run = same_run keep f library in
@@ -96,4 +100,39 @@ plain_texts keep f library texts h =
       report_is = h.report_is
           ∙ ap (λ (ds : List (List ℕ)). text_with h.stem library h.history ds (cards_of (plain f))) (same_names f.devices)
           ∙ ap (text_with h.stem library h.history (map device_name f.devices)) (plain_cards f);
+    }
+
+-- the limit that is counted of a history with these cards
+counted_with : List ℕ → Flat → List Device → Source → History → List ℕ → Option OutLimit
+counted_with stem f cards s h report =
+    let vs = variants_of cards h.last.composites in
+    let names = variant_names (top_name f) vs.different in
+    let bodies = map (slot_card stem cards names vs.numbers) h.last.slots in
+    let deck : Deck = record {
+      title = f.title;
+      globals = f.rails;
+      models = f.models;
+      subs = map (variant_sub s names) (zip names vs.different) ++ subs_around f.top bodies;
+      top = top_without f.top bodies;
+      passed = f.passed;
+    } in
+    let all = all_located stem h in
+    let m : NameMap = record { devices = renamed_by (flat_map devices_renamed all) (map (λ (c : Device). c.name) cards); nets = renamed_by (flat_map (nets_renamed s) all) (nets_of cards) } in
+    first_passed (
+    passed_if (has_long_name limits.name deck m) of_name
+    ∷ passed_if (nat_lt limits.cards (length cards + length h.last.composites)) of_cards
+    ∷ passed_if (nat_lt limits.text (length (deck_text deck))) of_lifted_text
+    ∷ passed_if (nat_lt limits.text (length (flat_text (record (f) { devices = [] })) + length (flat_map (λ c. line_of (dev c)) (map (new_card m (nets_of cards)) (zip (new_names m.devices) cards))))) of_lifted_flat
+    ∷ passed_if (nat_lt limits.text (length (map_text m))) of_map_text
+    ∷ passed_if (nat_lt limits.text (length report)) of_report_text ∷ [])
+
+pub plain_counted : (keep : List (List ℕ)) (f : Flat) (library : Library) (limit : Option OutLimit) (texts : Texts) → HaveCounted (run_of (plain f) library keep) (plain f) limit texts → HaveCounted (run_of f library keep) f limit texts
+unfolding plain_texts counted_with
+plain_counted keep f library limit texts h =
+    let t = h.texts_are in
+    record {
+      texts_are = plain_texts keep f library texts t;
+      limit_is = ap (λ (cards : List Device). counted_with t.stem f cards (run_of f library keep).source t.history texts.report) (sym (plain_cards f))
+          ∙ ap (λ (r : Run). counted_with t.stem f (cards_of (plain f)) r.source t.history texts.report) (sym (same_run keep f library))
+          ∙ h.limit_is;
     }

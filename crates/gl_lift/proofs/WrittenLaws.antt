@@ -18,7 +18,7 @@ known_by None f flat h = (cc, cc)
 known_by (Some name) f flat h = absurd cc
 
 -- a flat deck that is lifted is that of the deck, and all names are known
-known_flat : (keep : List (List ℕ)) (library : Library) (wanted : Result Flat Fault) (flat : Flat) → unless_unknown keep library wanted ≡ Ok flat → (wanted ≡ Ok flat) × (unknown_keep keep (source_of flat library) ≡ None)
+pub known_flat : (keep : List (List ℕ)) (library : Library) (wanted : Result Flat Fault) (flat : Flat) → unless_unknown keep library wanted ≡ Ok flat → (wanted ≡ Ok flat) × (unknown_keep keep (source_of flat library) ≡ None)
 known_flat keep library (Err fault) flat h = absurd cc
 known_flat keep library (Ok f) flat h =
     let k = known_by (unknown_keep keep (source_of f library)) f flat h in
@@ -27,7 +27,7 @@ known_flat keep library (Ok f) flat h =
 pub is_lifted : (deck_bytes library_bytes : List ℕ) (o : Options) (texts : Texts) → IsWritten deck_bytes library_bytes o texts → IsLifted deck_bytes library_bytes o texts.lifted texts.map texts.report
 is_lifted deck_bytes library_bytes o texts w =
     let known = known_flat o.keep w.library (flat_deck o.top w.deck w.library) w.flat w.flat_is in
-    let t = w.texts_are in
+    let t = w.texts_are.texts_are in
     record {
       deck = w.deck;
       library = w.library;
@@ -39,7 +39,7 @@ is_lifted deck_bytes library_bytes o texts w =
       flat_is = known.0;
       history_is = record { all_known = known.1; history_is = t.history_is; stem_is = t.stem_is };
       texts_are = record { lifted_is = t.lifted_is; map_is = t.map_is; report_is = t.report_is };
-      within = w.within;
+      within = w.texts_are.limit_is;
     }
 
 pub is_restored : LiftsBack → (deck_bytes library_bytes : List ℕ) (o : Options) (texts : Texts) (w : IsWritten deck_bytes library_bytes o texts) → IsRestored o.top texts.lifted texts.map w.flat

@@ -1,5 +1,6 @@
 pub mod Lifting
 pub mod Written
+pub mod Counted
 pub mod LiftedRuns
 pub mod FlatParts
 pub mod Liftable

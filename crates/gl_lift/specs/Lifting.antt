@@ -1,5 +1,5 @@
 -- What the job `lift` writes of a deck and a library with a top or none and with kept names: the lifted deck, the map of names and the report of all rounds. This project's own.
-use Rattle.std.specs.Prelude.{◌≡◌, ℕ, List, Option, Result, Ok, Err, option_map}
+use Rattle.std.specs.Prelude.{◌≡◌, ℕ, List, Option, None, Some, Result, Ok, Err, option_map}
 use Rattle.std.specs.List.{AllZip}
 use Rattle.gl_fault.specs.Refusals.{or_else}
 use Rattle.gl_text.specs.LogicalLines.{Fault}
@@ -19,6 +19,7 @@ use Rattle.gl_lifting.specs.Histories.{History, IsHistory, AreRounds}
 use Rattle.gl_lifting.specs.HistoryReports.{history_report}
 use Rattle.gl_lifting.specs.LiftedDecks.{lifted_deck}
 use Rattle.gl_lifting.specs.NameMaps.{map_of, map_text}
+use Rattle.gl_lifting.specs.OutLimits.{OutLimit, limits, out_limit}
 use Rattle.gl_lifting.specs.LiftJobs.{Texts}
 
 -- ---- what is lifted
@@ -70,6 +71,17 @@ pub record AreTextsOf (run : Run) (flat : Flat) (texts : Texts) : Type 0 where
   pub map_is : texts.map ≡ map_text (map_of stem flat run.source history)
   pub report_is : texts.report ≡ history_report stem flat run.library history
 
--- the texts are those of a flat deck, in whose circuit the nets of these names are kept
+-- ---- limits
+
+-- texts of a run, and the limit that they pass first, if they pass one
+pub record HaveLimit (run : Run) (flat : Flat) (limit : Option OutLimit) (texts : Texts) : Type 0 where
+  pub texts_are : AreTextsOf run flat texts
+  pub limit_is : out_limit limits flat.top (lifted_deck texts_are.stem flat run.source texts_are.history) texts.map texts.report ≡ limit
+
+-- the texts are those of a flat deck, in whose circuit the nets of these names are kept, and they pass no limit
 abbrev pub AreLiftTexts : List (List ℕ) → Library → Flat → Texts → Type 0
-AreLiftTexts keep library flat texts = AreTextsOf (run_of flat library keep) flat texts
+AreLiftTexts keep library flat texts = HaveLimit (run_of flat library keep) flat None texts
+
+-- the texts of such a flat deck pass this limit first
+abbrev pub IsLiftLimit : List (List ℕ) → Library → Flat → OutLimit → Type 0
+IsLiftLimit keep library flat limit = (texts : Texts) × HaveLimit (run_of flat library keep) flat (Some limit) texts

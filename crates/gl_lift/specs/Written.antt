@@ -1,11 +1,8 @@
--- What is written of the bytes of a deck and a library, with the limits that the texts keep. This project's own.
-use Rattle.std.specs.Prelude.{◌≡◌, ℕ, true, List, None, Ok}
+-- What is written of the bytes of a deck and a library. This project's own.
+use Rattle.std.specs.Prelude.{◌≡◌, ℕ, true, List, Ok}
 use Rattle.gl_text.specs.Decks.{Deck, read_deck}
 use Rattle.gl_text.specs.Flattening.{Flat}
 use Rattle.gl_base.specs.Libraries.{Library, read_library}
-use Rattle.gl_lifting.specs.Runs.{run_of}
-use Rattle.gl_lifting.specs.LiftedDecks.{lifted_deck}
-use Rattle.gl_lifting.specs.OutLimits.{limits, out_limit}
 use Rattle.gl_lifting.specs.LiftJobs.{Texts}
 use Rattle.gl_lifting.specs.Lifted.{Options}
 use Rattle.gl_lift.specs.Lifting.{lifted_flat, AreLiftTexts}
@@ -19,4 +16,3 @@ pub record IsWritten (deck_bytes library_bytes : List ℕ) (o : Options) (texts 
   pub library_is : read_library library_bytes ≡ Ok library
   pub flat_is : lifted_flat o.top o.keep deck library ≡ Ok flat
   pub texts_are : AreLiftTexts o.keep library flat texts
-  pub within : out_limit limits flat.top (lifted_deck texts_are.stem flat (run_of flat library o.keep).source texts_are.history) texts.map texts.report ≡ None

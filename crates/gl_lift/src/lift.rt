@@ -1,5 +1,5 @@
 //! From a deck and a library to the texts.
-ghost use Rattle.std.specs.Prelude.{◌≡◌, None, Option, IfOk, IfErr};
+ghost use Rattle.std.specs.Prelude.{◌≡◌, None, Ok, Option, IfOk, IfErr};
 ghost use Rattle.std.specs.Option.{option_copied};
 ghost use Rattle.gl_fault.specs.Refusals.{IsFound};
 ghost use Rattle.gl_base.specs.Rounds.{source_of};
@@ -8,10 +8,10 @@ ghost use Rattle.gl_lifting.specs.Runs.{run_of};
 ghost use Rattle.gl_flat.specs.Refusals.{Gives};
 ghost use Rattle.gl_lib.specs.Kept.{unknown_of};
 ghost use Rattle.gl_lib.specs.Sources.{AreSound};
-ghost use Rattle.gl_lift.specs.Lifting.{flat_deck, lifted_flat, AreLiftTexts};
+ghost use Rattle.gl_lift.specs.Lifting.{flat_deck, lifted_flat, unless_unknown};
 ghost use Rattle.gl_lift.specs.LiftedRuns.{IsLiftedRun};
 ghost use Rattle.gl_lift.specs.Liftable.{IsLiftable, IsSearchable};
-ghost use Rattle.gl_lift.specs.Refusals.{GivesOf};
+ghost use Rattle.gl_lift.specs.Refusals.{AreLifted, IsNotLifted};
 
 use crate::fault::LiftFault;
 use crate::laws::{flat_decks_are_sound, plain_texts_are_texts};
@@ -66,12 +66,12 @@ fn texts_of_flat(
     flat: &Flat,
     library: &Library,
     keep: &[Name],
-) -> Result<Texts, KeepFault>
+) -> Result<Texts, LiftFault>
     requires sound { AreSound flat.now library.now }
-    ensures known { IfOk result (λ texts. unknown_keep keep.now (source_of flat.now library.now) ≡ None) }
-    ensures texts { IfOk result (AreLiftTexts keep.now library.now flat.now) }
-    ensures refused { IfErr result (λ fault. IsFound (unknown_of fault)
-        (unknown_keep keep.now (source_of flat.now library.now))) }
+    ensures texts { IfOk result
+        (AreLifted keep.now library.now (unless_unknown keep.now library.now (Ok flat.now))) }
+    ensures refused { IfErr result
+        (IsNotLifted keep.now library.now (unless_unknown keep.now library.now (Ok flat.now))) }
 {
     let lifted = lifted_of(alloc, flat, library, keep)?;
     let texts = texts_of_rounds(alloc, flat, library, &lifted)?;
@@ -79,8 +79,9 @@ fn texts_of_flat(
 }
 
 /// The lifted deck, the map of names and the report of all rounds of a library's cells in a deck, with a top or none, and with
-/// the nets of some names kept; or the refusal of the deck as it is flattened, and then the first kept name that is no net of
-/// a device. The deck is given up when it is flattened, to make room for the search.
+/// the nets of some names kept; or the refusal of the deck as it is flattened, then the first kept name that is no net of a
+/// device, and then the first limit that the texts pass, as it is counted. The deck is given up when it is flattened, to make
+/// room for the search.
 pub fn texts_of(
     alloc: Global,
     deck: Deck,
@@ -90,15 +91,14 @@ pub fn texts_of(
 ) -> Result<Texts, LiftFault>
     requires deck { IsLiftable deck }
     requires library { IsSearchable library.now }
-    ensures gives { GivesOf (λ texts flat. AreLiftTexts keep.now library.now flat texts) result
-        (lifted_flat (option_copied top.entry) keep.now deck library.now) }
+    ensures texts { IfOk result (AreLifted keep.now library.now
+        (lifted_flat (option_copied top.entry) keep.now deck library.now)) }
+    ensures refused { IfErr result (IsNotLifted keep.now library.now
+        (lifted_flat (option_copied top.entry) keep.now deck library.now)) }
 {
     flat_decks_are_sound();
     let flat = flat_of(alloc, &deck, library, top)?;
     drop(deck);
     plain_texts_are_texts();
-    match texts_of_flat(alloc, &flat, library, keep) {
-        Ok(texts) => Ok(texts),
-        Err(fault) => Err(LiftFault::Keep(fault)),
-    }
+    texts_of_flat(alloc, &flat, library, keep)
 }

@@ -1,18 +1,19 @@
 //! The texts that are told from the rounds of a run.
-ghost use Rattle.std.specs.Prelude.{◌≡◌, IfOk};
-ghost use Rattle.gl_lifting.specs.Runs.{run_of};
-ghost use Rattle.gl_lifting.specs.NameMaps.{map_of, map_text};
-ghost use Rattle.gl_lifting.specs.HistoryReports.{history_report};
+ghost use Rattle.std.specs.Prelude.{IfOk, IfErr};
+ghost use Rattle.gl_base.specs.Stems.{IsStem, names_in};
 ghost use Rattle.gl_found.specs.Founds.{IsRunOf};
-ghost use Rattle.gl_lift.specs.Lifting.{AreTextsOf};
+ghost use Rattle.gl_lift.specs.Counted.{AreCountedTexts, IsCountedLimit, TellsLimit};
 
+use crate::fault::LimitFault;
+use crate::limits::{
+    deck_within, has_long_name, has_many_cards, map_within, refuse_if, report_within,
+};
 use gl_cells::Library;
 use gl_flat::Flat;
 use gl_history::Lifted;
-use gl_match::Memory;
+use gl_limit::OutLimit;
 use gl_name::stem;
-use gl_named::map;
-use gl_report::{Names, left, lifted_rounds_are_reported, print};
+use gl_named::Names;
 use gl_write::lifted_text;
 use std::alloc::Global;
 use std::marker::Model;
@@ -36,61 +37,49 @@ impl Model for Texts {
     ghost view = { λ t. record { lifted = t.lifted.items; map = t.map.items; report = t.report.items } };
 }
 
-/// The text of the map of names.
-fn names_text(
+/// The texts that are told from the rounds of a run under a stem, or the first limit that they pass.
+fn texts_under(
     alloc: Global,
     flat: &Flat,
     library: &Library,
     lifted: &Lifted,
     stem: &[u8],
-) -> Result<Vec<u8>, Memory>
+) -> Result<Texts, LimitFault>
     requires run { IsRunOf flat.now library.now lifted.now }
-    ensures text { IfOk result (λ text. (r : IsRunOf flat.now library.now lifted.now) → text.items
-        ≡ map_text (map_of stem.now flat.now (run_of flat.now library.now r.keep).source r.shown.history)) }
+    requires stem { IsStem (names_in flat.now) stem.now }
+    ensures texts { IfOk result (λ texts. (r : IsRunOf flat.now library.now lifted.now)
+        → AreCountedTexts r.keep library.now flat.now texts) }
+    ensures limit { IfErr result (λ fault. (r : IsRunOf flat.now library.now lifted.now)
+        → TellsLimit (IsCountedLimit r.keep library.now flat.now) fault) }
 {
-    let names = map(alloc, flat, library, lifted, stem)?;
-    let mut text = Vec::new(alloc);
-    names.print(&mut text)?;
-    Ok(text)
+    let written = lifted_text(alloc, flat, library, lifted, stem)?;
+    let names = Names::of(alloc, flat, library, lifted, stem)?;
+    refuse_if(has_long_name(&written, &names), OutLimit::Name)?;
+    refuse_if(has_many_cards(flat, lifted), OutLimit::Cards)?;
+    let deck = deck_within(written)?;
+    refuse_if(names.has_long_flat(alloc)?, OutLimit::LiftedFlat)?;
+    let map = map_within(alloc, &names)?;
+    let report = report_within(alloc, flat, library, lifted, stem)?;
+    Ok(Texts {
+        lifted: deck,
+        map,
+        report,
+    })
 }
 
-/// The text of the report.
-fn report_text(
-    alloc: Global,
-    flat: &Flat,
-    library: &Library,
-    lifted: &Lifted,
-    stem: &[u8],
-) -> Result<Vec<u8>, Memory>
-    ensures text { IfOk result (λ text. (r : IsRunOf flat.now library.now lifted.now) → text.items
-        ≡ history_report stem.now flat.now library.now r.shown.history) }
-{
-    lifted_rounds_are_reported();
-    let left = left(&lifted.last_origins);
-    let names = Names { stem, flat };
-    let mut text = Vec::new(alloc);
-    print(&names, library, &lifted.rounds, left, &mut text)?;
-    Ok(text)
-}
-
-/// The texts that are told from the rounds of a run.
+/// The texts that are told from the rounds of a run, or the first limit that they pass.
 pub fn texts_of_rounds(
     alloc: Global,
     flat: &Flat,
     library: &Library,
     lifted: &Lifted,
-) -> Result<Texts, Memory>
+) -> Result<Texts, LimitFault>
     requires run { IsRunOf flat.now library.now lifted.now }
     ensures texts { IfOk result (λ texts. (r : IsRunOf flat.now library.now lifted.now)
-        → AreTextsOf (run_of flat.now library.now r.keep) flat.now texts) }
+        → AreCountedTexts r.keep library.now flat.now texts) }
+    ensures limit { IfErr result (λ fault. (r : IsRunOf flat.now library.now lifted.now)
+        → TellsLimit (IsCountedLimit r.keep library.now flat.now) fault) }
 {
     let stem = stem(alloc, flat)?;
-    let deck = lifted_text(alloc, flat, library, lifted, &stem)?;
-    let names = names_text(alloc, flat, library, lifted, &stem)?;
-    let report = report_text(alloc, flat, library, lifted, &stem)?;
-    Ok(Texts {
-        lifted: deck,
-        map: names,
-        report,
-    })
+    texts_under(alloc, flat, library, lifted, &stem)
 }
