@@ -2,7 +2,7 @@
 ghost use Rattle.std.specs.Prelude.{IfOk};
 ghost use Rattle.gl_lift.specs.Liftable.{IsLiftable, IsSearchable};
 
-use crate::way::text_of;
+use crate::way::written_of;
 use gl_cells::{Deck, Library};
 use gl_lib::Name;
 use gl_lift::read_values_are_lifted;
@@ -114,8 +114,12 @@ fn lift_row(rt: &impl Abort, alloc: Global, row: &Row) -> Result<(), Fail> {
     let deck = read(alloc, deck)?;
     let library = library_of(alloc, library)?;
     let top = top_of(alloc, top)?;
-    let Ok(text) = text_of(alloc, &deck, &library, top.as_ref()) else {
+    let Ok(written) = written_of(alloc, &deck, &library, top.as_ref()) else {
         return Err(Fail::new("refused"));
+    };
+    assert!(rt; !written.has_long_name, "{name}");
+    let Some(text) = written.text else {
+        return Err(Fail::new("too long"));
     };
     assert!(rt; text.as_slice() == *wanted, "{name}");
     Ok(())

@@ -1,4 +1,4 @@
-//! The way from a deck and a library to the text of the lifted deck.
+//! The way from a deck and a library to the lifted deck, written.
 ghost use Rattle.std.specs.Prelude.{IfOk};
 ghost use Rattle.std.specs.Option.{option_copied};
 ghost use Rattle.gl_flat.specs.Refusals.{Gives};
@@ -13,7 +13,7 @@ use gl_history::{Lift, Lifted};
 use gl_lib::{KeepFault, Levels, Name, levels_of, run_rails, run_rails_are_fine};
 use gl_lift::{LiftFault, flat_decks_are_sound};
 use gl_name::stem;
-use gl_write::lifted_text;
+use gl_write::{Written, lifted_text};
 use std::alloc::Global;
 
 /// The flat deck of a deck, with the rails of the run, and with a top or none.
@@ -46,28 +46,28 @@ fn rounds_in(alloc: Global, flat: &Flat, library: &Library) -> Result<Lifted, Ke
     Ok(lifted)
 }
 
-/// The text of the lifted deck of a flat deck.
-fn text_of_flat(alloc: Global, flat: &Flat, library: &Library) -> Result<Vec<u8>, KeepFault>
+/// The lifted deck of a flat deck, written.
+fn written_of_flat(alloc: Global, flat: &Flat, library: &Library) -> Result<Written, KeepFault>
     requires sound { AreSound flat.now library.now }
 {
     let lift = rounds_in(alloc, flat, library)?;
     let stem = stem(alloc, flat)?;
-    let text = lifted_text(alloc, flat, library, &lift, &stem)?;
-    Ok(text)
+    let written = lifted_text(alloc, flat, library, &lift, &stem)?;
+    Ok(written)
 }
 
-/// The text of the lifted deck of a deck, with a top or none.
-pub fn text_of(
+/// The lifted deck of a deck, with a top or none, written.
+pub fn written_of(
     alloc: Global,
     deck: &Deck,
     library: &Library,
     top: Option<&Name>,
-) -> Result<Vec<u8>, LiftFault>
+) -> Result<Written, LiftFault>
     requires deck { IsLiftable deck.now }
     requires library { IsSearchable library.now }
 {
     flat_decks_are_sound();
     let flat = flat_of(alloc, deck, library, top)?;
-    let text = text_of_flat(alloc, &flat, library)?;
-    Ok(text)
+    let written = written_of_flat(alloc, &flat, library)?;
+    Ok(written)
 }
