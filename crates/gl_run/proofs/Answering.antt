@@ -10,7 +10,8 @@ use Rattle.gl_job.proofs.Points.{refusal_parts}
 use Rattle.gl_deck.specs.Refusals as decks
 use Rattle.gl_cells.specs.Causes.{cause_of}
 use Rattle.gl_flat.specs.Refusals as flats
-use Rattle.gl_lift.specs.Refusals as lifts
+use Rattle.gl_lib.specs.Kept.{unknown_of}
+use Rattle.gl_lib.specs.Texts.{keep_text}
 use Rattle.gl_map.specs.Refusals as maps
 use Rattle.gl_map.specs.Texts as map_texts
 use Rattle.gl_restore.specs.Refusals as names
@@ -29,7 +30,7 @@ use Rattle.gl_job.proofs.Laws.{done_of, complete_of, unused_of, closed_of}
 use Rattle.gl_job.proofs.Same.{ends_same}
 use Rattle.gl_job.proofs.Signs.{long_of, failed_of}
 use Rattle.gl_words.specs.Jobs.{Job}
-use Rattle.gl_run.specs.Jobs.{course_of, lift_text}
+use Rattle.gl_run.specs.Jobs.{course_of}
 use Rattle.gl_run.specs.Claims.{IsEnding, IsLongSaid, IsFailedSaid, AreClosed, AreLeft}
 use Rattle.gl_run.proofs.Courses.{course_proper}
 use Rattle.gl_run.proofs.Wordless.{one_of_words}
@@ -74,7 +75,8 @@ end_parts endings.Words undone = refl
 end_parts (endings.Deck fault) undone = refusal_parts kinds.Deck fault_text (decks.fault_of fault)
 end_parts (endings.Library fault) undone = refusal_parts kinds.Library cell_text (cause_of fault)
 end_parts (endings.Flat fault) undone = refusal_parts kinds.Deck fault_text (flats.fault_of fault)
-end_parts (endings.Lift fault) undone = refusal_parts kinds.Deck lift_text (lifts.cause_of fault)
+end_parts (endings.Keep fault) undone = refusal_parts kinds.Deck keep_text (unknown_of fault)
+end_parts (endings.Limit limit) undone = refl
 end_parts (endings.Map fault) undone = refusal_parts kinds.Map map_texts.fault_text (maps.fault_of fault)
 end_parts (endings.Names fault) undone = refusal_parts kinds.Map name_texts.fault_text (names.fault_of fault)
 end_parts (endings.Text fault) undone = refusal_parts kinds.Limit name_texts.limit_text (limit_of fault)
@@ -94,7 +96,8 @@ done_speaks endings.Words view h = absurd cc
 done_speaks (endings.Deck fault) view h = absurd cc
 done_speaks (endings.Library fault) view h = absurd cc
 done_speaks (endings.Flat fault) view h = absurd cc
-done_speaks (endings.Lift fault) view h = absurd cc
+done_speaks (endings.Keep fault) view h = absurd cc
+done_speaks (endings.Limit limit) view h = absurd cc
 done_speaks (endings.Map fault) view h = absurd cc
 done_speaks (endings.Names fault) view h = absurd cc
 done_speaks (endings.Text fault) view h = absurd cc
@@ -106,7 +109,8 @@ done_status endings.Words h = absurd cc
 done_status (endings.Deck fault) h = absurd cc
 done_status (endings.Library fault) h = absurd cc
 done_status (endings.Flat fault) h = absurd cc
-done_status (endings.Lift fault) h = absurd cc
+done_status (endings.Keep fault) h = absurd cc
+done_status (endings.Limit limit) h = absurd cc
 done_status (endings.Map fault) h = absurd cc
 done_status (endings.Names fault) h = absurd cc
 done_status (endings.Text fault) h = absurd cc

@@ -9,14 +9,14 @@ use Rattle.gl_lifting.specs.NameMaps.{NameMap}
 use Rattle.gl_lifting.specs.MapReading.{read_map}
 use Rattle.gl_lifting.specs.Renaming.{restore as restored_flat}
 use Rattle.gl_base.specs.Libraries as libraries
-use Rattle.gl_lift.specs.Lifting.{LiftCause, lifted_flat, AreLiftTexts}
+use Rattle.gl_lift.specs.Lifting.{LiftCause, lifted_flat, AreLiftTexts, IsLiftLimit}
 use Rattle.gl_desk.specs.declared.slot.Slot.{Slot}
 use Rattle.gl_desk.specs.declared.slot.Slot.TheVariants.{Deck, Library, Map, Out, Says}
 use Rattle.gl_desk.specs.Desk.{IsOutput}
 use Rattle.gl_base.specs.Libraries.{read_library}
 use Rattle.gl_job.specs.declared.kind.Kind.{Kind}
 use Rattle.gl_job.specs.declared.kind.Kind.TheVariants as kinds
-use Rattle.gl_job.specs.Texts.{End}
+use Rattle.gl_job.specs.Texts.{End, ended}
 use Rattle.gl_job.specs.Runs.{Run, Opening, opening, AreRest}
 use Rattle.gl_job.specs.Courses.{Course, unless, write, Ends, Makes}
 use Rattle.gl_job.specs.Points.{Refuses, IsRead, IsNotRead}
@@ -25,6 +25,8 @@ use Rattle.gl_job.proofs.Points.{refused_ends, unread_ends, accepted_ends, read_
 use Rattle.gl_words.specs.Jobs.{Job, lift, flat, restore, Request, FlatRequest, RestoreRequest}
 use Rattle.gl_deck.specs.Texts.{fault_text}
 use Rattle.gl_cells.specs.Texts.{cell_text}
+use Rattle.gl_lifting.specs.OutLimits.{OutLimit}
+use Rattle.gl_limit.specs.Texts.{limit_text}
 use Rattle.gl_map.specs.Texts as maps
 use Rattle.gl_restore.specs.Texts as names
 use Rattle.gl_restore.specs.TooLong.{text_within}
@@ -112,6 +114,14 @@ unfolding lift_course
 lift_made r deck library f texts run d l is are rest = read_makes [] kinds.Deck fault_text (read_deck true) (opening Deck r.deck) deck _ (lift_outs r) (texts_in_order texts) run d
     (read_makes (Deck ∷ []) kinds.Library cell_text read_library (opening Library r.library) library _ (lift_outs r) (texts_in_order texts) run l
     (accepted_makes (Library ∷ Deck ∷ []) kinds.Deck lift_text (lifted_flat r.top r.keep deck library) f _ (lift_outs r) (texts_in_order texts) run is (refl, are, rest)))
+
+pub lift_passed : (r : Request) (deck : decks.Deck) (library : libraries.Library) (f : Flat) (limit : OutLimit) (run : Run) → IsRead (read_deck true) (opening Deck r.deck) deck run → IsRead read_library (opening Library r.library) library run
+    → lifted_flat r.top r.keep deck library ≡ Ok f → IsLiftLimit r.keep library f limit → AreRest (Library ∷ Deck ∷ []) run → Ends [] (lift_course r) (ended kinds.Limit (limit_text limit)) run
+unfolding lift_course
+lift_passed r deck library f limit run d l is passed rest = read_ends [] kinds.Deck fault_text (read_deck true) (opening Deck r.deck) deck _ (ended kinds.Limit (limit_text limit)) run d
+    (read_ends (Deck ∷ []) kinds.Library cell_text read_library (opening Library r.library) library _ (ended kinds.Limit (limit_text limit)) run l
+    (accepted_ends (Library ∷ Deck ∷ []) kinds.Deck lift_text (lifted_flat r.top r.keep deck library) f _ (ended kinds.Limit (limit_text limit)) run is
+    (inl (kinds.Limit, limit_text limit, (limit, refl, refl, passed), refl, rest))))
 
 -- ---- restore
 

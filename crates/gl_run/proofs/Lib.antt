@@ -1,6 +1,8 @@
 pub mod Bytes
 pub mod Reading
 pub mod Courses
+pub mod Lifting
+pub mod Backward
 pub mod Finishing
 pub mod Answering
 pub mod Wordless

@@ -67,11 +67,14 @@ flat_wordless : (r : FlatRequest) → IsWordless (flat_course r)
 unfolding flat_course
 flat_wordless r = λ bytes. wordless_unless kinds.Deck fault_text (flat_job r.top bytes) _ (omega arith) (λ text. tt)
 
+limit_status : (kind : Kind) → kind ≡ kinds.Limit → 2 ≤ kind_status kind
+limit_status kind is = let status = ap kind_status is in omega (arith, status)
+
 lift_wordless : (r : Request) → IsWordless (lift_course r)
 unfolding lift_course
 lift_wordless r = λ d. wordless_unless kinds.Deck fault_text (read_deck true d) _ (omega arith) (λ deck.
     λ l. wordless_unless kinds.Library cell_text (read_library l) _ (omega arith) (λ library.
-    wordless_unless kinds.Deck lift_text (lifted_flat r.top r.keep deck library) _ (omega arith) (λ flat. tt)))
+    wordless_unless kinds.Deck lift_text (lifted_flat r.top r.keep deck library) _ (omega arith) (λ flat. (λ kind text told. limit_status kind told.1, tt))))
 
 restore_wordless : (r : RestoreRequest) → IsWordless (restore_course r)
 unfolding restore_course

@@ -4,17 +4,20 @@ use Rattle.gl_text.specs.Decks.{read_deck}
 use Rattle.gl_text.specs.Flattening.{flat_of, flat_job}
 use Rattle.gl_base.specs.Libraries.{read_library}
 use Rattle.gl_lifting.specs.LiftJobs.{Texts}
+use Rattle.gl_lifting.specs.OutLimits.{OutLimit}
 use Rattle.gl_lifting.specs.MapReading.{read_map}
 use Rattle.gl_lifting.specs.Renaming.{restore as restored_flat}
-use Rattle.gl_lift.specs.Lifting.{LiftCause, of_flat, of_keep, lifted_flat, AreLiftTexts}
+use Rattle.gl_lift.specs.Lifting.{LiftCause, of_flat, of_keep, lifted_flat, AreLiftTexts, IsLiftLimit}
 use Rattle.gl_desk.specs.declared.slot.Slot.TheVariants.{Deck, Library, Map, Lifted, NewMap, Report, Out}
+use Rattle.gl_job.specs.declared.kind.Kind.{Kind}
 use Rattle.gl_job.specs.declared.kind.Kind.TheVariants as kinds
 use Rattle.gl_job.specs.Runs.{Opening, opening}
-use Rattle.gl_job.specs.Courses.{Course, refuse, unless, input, write}
+use Rattle.gl_job.specs.Courses.{Course, refuse, may_stop, unless, input, write}
 use Rattle.gl_words.specs.Jobs.{Job, lift, flat, restore, Request, FlatRequest, RestoreRequest, job_named}
 use Rattle.gl_deck.specs.Texts.{fault_text}
 use Rattle.gl_cells.specs.Texts.{cell_text}
 use Rattle.gl_lib.specs.Texts.{keep_text}
+use Rattle.gl_limit.specs.Texts.{limit_text}
 use Rattle.gl_map.specs.Texts as maps
 use Rattle.gl_restore.specs.Texts as names
 use Rattle.gl_restore.specs.TooLong.{text_within}
@@ -54,13 +57,19 @@ flat_course r = input (opening Deck r.deck) kinds.Deck fault_text (flat_job r.to
 abbrev pub lift_outs : Request → List Opening
 lift_outs r = opening Lifted r.lifted ∷ opening NewMap r.map ∷ opening Report r.report ∷ []
 
--- the deck is read, and the library; the deck is flattened, its kept names are looked up, and the lifted deck, the map of names and the report are written
+-- a limit is told of which this is so
+abbrev pub IsLimitTold : (OutLimit → Type 0) → Kind → List ℕ → Type 0
+IsLimitTold IsPassed kind text = (limit : OutLimit) × (kind ≡ kinds.Limit) × (text ≡ limit_text limit) × IsPassed limit
+
+-- the deck is read, and the library; the deck is flattened, and its kept names are looked up; the first limit that the texts pass is told, or
+-- the lifted deck, the map of names and the report are written, which pass none
 unfoldable pub lift_course : Request → Course
 lift_course r =
     input (opening Deck r.deck) kinds.Deck fault_text (read_deck true) (λ deck.
     input (opening Library r.library) kinds.Library cell_text read_library (λ library.
     unless kinds.Deck lift_text (lifted_flat r.top r.keep deck library) (λ flat.
-    write (lift_outs r) (AreThree (AreLiftTexts r.keep library flat)))))
+    may_stop (IsLimitTold (IsLiftLimit r.keep library flat)) (
+    write (lift_outs r) (AreThree (AreLiftTexts r.keep library flat))))))
 
 -- ---- restore
 

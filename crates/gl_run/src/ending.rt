@@ -1,12 +1,9 @@
 //! How a run ends.
 ghost use Rattle.std.specs.Prelude.{◌≡◌, true};
 ghost use Rattle.gl_desk.specs.Desk.{OthersSame, NamesSame};
-ghost use Rattle.gl_job.specs.Points.{refusal_kind};
 ghost use Rattle.gl_job.specs.Texts.{status_of, line_of, Speaks};
-ghost use Rattle.gl_said.specs.Texts.{parts_text, text_if_any};
-ghost use Rattle.gl_lift.specs.Refusals.{cause_of};
-ghost use Rattle.gl_run.specs.Jobs.{lift_text};
-ghost use Rattle.gl_run.specs.Endings.{end_of, kind_of, text_of, is_done};
+ghost use Rattle.gl_said.specs.Texts.{parts_text};
+ghost use Rattle.gl_run.specs.Endings.{end_of, lift_end, kind_of, text_of, is_done};
 
 use crate::kinds::{deck_kind, flat_kind, keep_kind, library_kind, map_kind, name_kind, text_kind};
 use gl_cells::{LibFault, library_parts};
@@ -14,8 +11,9 @@ use gl_deck::{DeckFault, deck_parts};
 use gl_desk::{Desk, Slot};
 use gl_flat::{FlatFault, flat_parts};
 use gl_job::{Kind, Stop, say};
-use gl_lib::keep_parts;
+use gl_lib::{KeepFault, keep_parts};
 use gl_lift::LiftFault;
+use gl_limit::{OutLimit, limit_parts};
 use gl_map::{MapFault, map_parts};
 use gl_restore::{RestoreFault, TextFault, restore_parts, text_parts};
 use gl_said::{Parts, one_text};
@@ -33,8 +31,10 @@ pub enum Ending {
     Library(LibFault),
     /// The deck is refused as it is flattened.
     Flat(FlatFault),
-    /// The deck is refused as it is flattened, or a kept name is unknown.
-    Lift(LiftFault),
+    /// A kept name is unknown.
+    Keep(KeepFault),
+    /// What is to be written passes a limit.
+    Limit(OutLimit),
     /// The map of names is refused as it is read.
     Map(MapFault),
     /// The map's names and those of the lifted deck do not go together.
@@ -45,23 +45,15 @@ pub enum Ending {
     Stopped(Stop),
 }
 
-/// Of which kind a refusal of `lift` is.
-fn lift_kind(fault: &LiftFault) -> Kind
-    ensures kind { result ≡ refusal_kind Kind.Deck (cause_of fault.now) }
+/// How a run ends whose deck and library were read, and of which nothing is written.
+pub fn lift_ending(fault: LiftFault) -> Ending
+    ensures end { end_of result ≡ lift_end fault }
 {
     match fault {
-        LiftFault::Flat(fault) => flat_kind(Kind::Deck, fault),
-        LiftFault::Keep(fault) => keep_kind(Kind::Deck, fault),
-    }
-}
-
-/// What is said of it.
-fn lift_parts<'a>(fault: &'a LiftFault) -> Parts<'a>
-    ensures text { parts_text result ≡ text_if_any lift_text (cause_of fault.now) }
-{
-    match fault {
-        LiftFault::Flat(fault) => flat_parts(fault),
-        LiftFault::Keep(fault) => keep_parts(fault),
+        LiftFault::Flat(fault) => Ending::Flat(fault),
+        LiftFault::Keep(fault) => Ending::Keep(fault),
+        LiftFault::Limit(limit) => Ending::Limit(limit),
+        LiftFault::Memory => Ending::Stopped(Stop::Memory),
     }
 }
 
@@ -76,7 +68,8 @@ impl Ending {
             Ending::Deck(_) => false,
             Ending::Library(_) => false,
             Ending::Flat(_) => false,
-            Ending::Lift(_) => false,
+            Ending::Keep(_) => false,
+            Ending::Limit(_) => false,
             Ending::Map(_) => false,
             Ending::Names(_) => false,
             Ending::Text(_) => false,
@@ -94,7 +87,8 @@ impl Ending {
             Ending::Deck(fault) => deck_kind(Kind::Deck, fault),
             Ending::Library(fault) => library_kind(Kind::Library, fault),
             Ending::Flat(fault) => flat_kind(Kind::Deck, fault),
-            Ending::Lift(fault) => lift_kind(fault),
+            Ending::Keep(fault) => keep_kind(Kind::Deck, fault),
+            Ending::Limit(_) => Kind::Limit,
             Ending::Map(fault) => map_kind(Kind::Map, fault),
             Ending::Names(fault) => name_kind(Kind::Map, fault),
             Ending::Text(fault) => text_kind(Kind::Limit, fault),
@@ -112,7 +106,8 @@ impl Ending {
             Ending::Deck(fault) => deck_parts(fault),
             Ending::Library(fault) => library_parts(fault),
             Ending::Flat(fault) => flat_parts(fault),
-            Ending::Lift(fault) => lift_parts(fault),
+            Ending::Keep(fault) => keep_parts(fault),
+            Ending::Limit(limit) => limit_parts(*limit),
             Ending::Map(fault) => map_parts(fault),
             Ending::Names(fault) => restore_parts(fault),
             Ending::Text(fault) => text_parts(fault),

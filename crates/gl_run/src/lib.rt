@@ -14,4 +14,4 @@ mod writing;
 
 pub use ending::Ending;
 pub use job::run;
-pub use laws::said_lines;
+pub use laws::{lifted_files_lead_back, said_lines};

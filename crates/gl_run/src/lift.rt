@@ -14,13 +14,13 @@ ghost use Rattle.gl_words.specs.Names.{lift_names};
 ghost use Rattle.gl_run.specs.Jobs.{lift_course, lift_outs, texts_in_order};
 ghost use Rattle.gl_run.specs.Endings.{end_of};
 
-use crate::ending::Ending;
+use crate::ending::{Ending, lift_ending};
 use crate::inputs::{deck_of, library_of};
 use crate::writing::finish;
 use gl_deck::Deck;
 use gl_desk::{Desk, Slot};
 use gl_job::{Kind, Output, read};
-use gl_lift::{Library, Texts, texts_of};
+use gl_lift::{Library, Texts, counted_limits_are_limits, texts_of};
 use gl_words::Lift;
 use std::alloc::Global;
 
@@ -58,7 +58,8 @@ fn read_library_file<D: Desk>(alloc: Global, desk: &mut D, word: &str) -> Result
     }
 }
 
-/// Reads both inputs, flattens the deck, and makes the texts of the lifted deck, the map of names and the report.
+/// Reads both inputs, flattens the deck, and makes the texts of the lifted deck, the map of names and the report, unless they
+/// pass a limit.
 fn make_lift<D: Desk>(alloc: Global, desk: &mut D, words: &Lift<'_>) -> Result<Texts, Ending>
     requires deck { (D.shows desk.old Slot.Deck).used ≡ false }
     requires library { (D.shows desk.old Slot.Library).used ≡ false }
@@ -79,9 +80,10 @@ fn make_lift<D: Desk>(alloc: Global, desk: &mut D, words: &Lift<'_>) -> Result<T
         Ok(library) => library,
         Err(ending) => return Err(ending),
     };
+    counted_limits_are_limits();
     match texts_of(alloc, deck, &library, words.top.as_ref(), &words.keep) {
         Ok(texts) => Ok(texts),
-        Err(fault) => Err(Ending::Lift(fault)),
+        Err(fault) => Err(lift_ending(fault)),
     }
 }
 

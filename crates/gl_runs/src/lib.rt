@@ -8,6 +8,8 @@ mod flat_texts;
 #[cfg(test)]
 mod lifted_levels;
 #[cfg(test)]
+mod lifted_limits;
+#[cfg(test)]
 mod lifted_long;
 #[cfg(test)]
 mod lifted_names;
