@@ -4,7 +4,9 @@
 Usage: bench/rounds.py
 
 The program is crates/gatelift/out/gatelift. The cell of level 0 has one transistor, and each cell above calls the one below,
-so that every instance is found at one look and what is timed is replacement and report. Each figure is the best of three runs.
+so that every instance is found at one look and what is timed is replacement and report. A lifted deck may have 400,000 cards
+when it is expanded, one for each transistor and one for each chosen instance; more rounds are left out. Each figure is the best
+of three runs.
 """
 import os
 import tempfile
@@ -13,6 +15,7 @@ from measure import HEAD, PROGRAM, best
 
 CELL = ".subckt c0 d g s b\nm1 d g s b nch\n.ends\n"
 CALLER = ".subckt c%d d g s b\nx1 d g s b c%d\n.ends\n"
+CARDS = 400_000
 
 
 def main():
@@ -23,7 +26,7 @@ def main():
             cards = ["m%d d%d g%d s%d 0 nch" % (i, i, i, i) for i in range(count)]
             with open(deck, "w") as file:
                 file.write("\n".join(["gates"] + HEAD + cards) + "\n.end\n")
-            for rounds in (1, 2, 3):
+            for rounds in range(1, min(3, CARDS // count - 1) + 1):
                 with open(library, "w") as file:
                     file.write(CELL + "".join(CALLER % (level, level - 1) for level in range(1, rounds)))
                 words = [PROGRAM, "lift", deck, library] + [os.path.join(room, name) for name in ("lifted", "map", "report")]
