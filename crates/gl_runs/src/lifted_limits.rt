@@ -34,7 +34,7 @@ fn files(alloc: Global, cell: &str, card: &str) -> Result<[String; 3], Memory> {
         )?,
         format!(in alloc; "gatelift map 1\ndevice r.xg1.{card} ra\nnet a a\nnet b b\nend\n")?,
         format!(in alloc;
-            "round 0\ncell {cell} ports 2 instances 1 chosen 1\n1 xg1 p=a q=b | {card}=ra\nleft 0\nend\n"
+            "round 0\ncell {cell} ports 2 instances 2 chosen 1\n1 xg1 p=a q=b | {card}=ra\n2 over xg1 p=b q=a | {card}=ra\nleft 0\nend\n"
         )?,
     ])
 }
